@@ -6,7 +6,7 @@ import (
 	"time"
 )
 
-// TestDays holds each day of the years against Go's calendar.
+// TestDays compares each day with Go's calendar.
 func TestDays(t *testing.T) {
 	at := time.Date(1, 1, 1, 0, 0, 0, 0, time.UTC)
 	for day := FirstDay; day <= LastDay; day++ {
@@ -25,7 +25,7 @@ func TestDays(t *testing.T) {
 }
 
 func TestDateTexts(t *testing.T) {
-	// The days are those of Python's datetime.date.toordinal.
+	// The numbers are those of Python's datetime.date.toordinal.
 	for text, due := range map[string]int64{"0001-01-01": 1, "9999-12-31": 3652059, "1970-01-01": 719163, "2000-02-29": 730179,
 		"2026-11-29": 739949, "1900-02-28": 693654} {
 		if day, err := Day(text); err != nil || day != due || DayText(day) != text {

@@ -20,17 +20,17 @@ const (
 
 const (
 	daysOf400Years = 146_097
-	// daysBefore are from 0000-03-01 to 0000-12-31, where years are counted from March on.
+	// daysBefore counts the days from 0000-03-01 to 0000-12-31, as years are counted from March.
 	daysBefore = 306
 )
 
 var monthNames = [...]string{"January", "February", "March", "April", "May", "June", "July", "August", "September", "October",
 	"November", "December"}
 
-// errForm says how a date is written.
+// errForm says how to write a date.
 var errForm = errors.New("a date is written as 2026-01-31")
 
-// Day is the day of a date as 2026-01-31.
+// Day returns the day number of a date such as 2026-01-31.
 func Day(text string) (int64, error) {
 	if len(text) != len("2026-01-31") || text[4] != '-' || text[7] != '-' {
 		return 0, errForm
@@ -44,7 +44,7 @@ func Day(text string) (int64, error) {
 	return DayOf(year, month, day)
 }
 
-// digits is a number of decimal digits alone.
+// digits returns a number of only decimal digits.
 func digits(text string) (int, bool) {
 	for _, c := range []byte(text) {
 		if c < '0' || c > '9' {
@@ -55,7 +55,7 @@ func digits(text string) (int, bool) {
 	return number, err == nil
 }
 
-// DayOf is the day of a year, a month from 1 and a day from 1; an error says what the calendar doesn't have.
+// DayOf returns the day number of a year, a month from 1 and a day from 1; an error says what the calendar doesn't have.
 func DayOf(year, month, day int) (int64, error) {
 	switch {
 	case year < FirstYear || year > LastYear:
@@ -68,7 +68,7 @@ func DayOf(year, month, day int) (int64, error) {
 	return dayOf(year, month, day), nil
 }
 
-// dayOf counts years from March on, so that 29 February is the last day of one.
+// dayOf counts years from March, so that 29 February is a year's last day.
 func dayOf(year, month, day int) int64 {
 	if month <= 2 {
 		year, month = year-1, month+12
@@ -77,7 +77,7 @@ func dayOf(year, month, day int) int64 {
 	return int64(365*year+year/4-year/100+year/400+ofYear) - daysBefore + 1
 }
 
-// DaysIn is how many days a month has.
+// DaysIn returns the number of days in a month.
 func DaysIn(year, month int) int {
 	switch month {
 	case 2:
@@ -91,7 +91,7 @@ func DaysIn(year, month int) int {
 	return 31
 }
 
-// Date is the year, the month and the day of a day from FirstDay to LastDay.
+// Date returns the year, month and day of a day number from FirstDay to LastDay.
 func Date(day int64) (year, month, ofMonth int) {
 	n := int(day) + daysBefore - 1
 	era, n := n/daysOf400Years, n%daysOf400Years
@@ -106,7 +106,7 @@ func Date(day int64) (year, month, ofMonth int) {
 	return year, month, ofMonth
 }
 
-// DayText is a day as 2026-01-31; empty where it is none from FirstDay to LastDay.
+// DayText returns a day number as 2026-01-31, or "" if it is out of range.
 func DayText(day int64) string {
 	if day < FirstDay || day > LastDay {
 		return ""
@@ -115,7 +115,7 @@ func DayText(day int64) string {
 	return fmt.Sprintf("%04d-%02d-%02d", year, month, ofMonth)
 }
 
-// AddMonths is a day some months later, on the last day of its month where that is shorter; false where it is past the years.
+// AddMonths returns the day some months later, at most the last of its month; false if it is out of range.
 func AddMonths(day, months int64) (int64, bool) {
 	const most = 12 * (LastYear + 1)
 	year, month, ofMonth := Date(day)
@@ -133,7 +133,7 @@ func AddMonths(day, months int64) (int64, bool) {
 	return dayOf(year, month, ofMonth), true
 }
 
-// MonthsBetween is how many whole months lie between two days; below 0 where the second is before the first.
+// MonthsBetween returns the whole months between two days; negative if the second is earlier.
 func MonthsBetween(from, to int64) int64 {
 	fromYear, fromMonth, fromDay := Date(from)
 	toYear, toMonth, toDay := Date(to)

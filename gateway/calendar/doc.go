@@ -1,3 +1,3 @@
-// Package calendar reads and writes dates and durations in ISO 8601, and counts them in whole numbers: a date by its day, of
-// which 0001-01-01 is the first; a days and time duration in seconds; a years and months duration in months.
+// Package calendar reads and writes dates and durations in ISO 8601 as whole numbers: dates as days, where 0001-01-01 is 1;
+// days and time durations as seconds; years and months durations as months.
 package calendar

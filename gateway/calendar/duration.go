@@ -13,15 +13,15 @@ var (
 	monthForm = regexp.MustCompile(`^(-?)P(?:([0-9]+)Y)?(?:([0-9]+)M)?$`)
 )
 
-// IsMonths tells whether a text is of years and months; false where it is of days and time, or no duration.
+// IsMonths reports whether a text is a years and months duration; false for days and time, and for no duration.
 func IsMonths(text string) bool { return hasParts(text) && monthForm.MatchString(text) }
 
-// hasParts tells whether a duration has a part, also behind its T.
+// hasParts reports whether a duration has a part, and one after its T.
 func hasParts(text string) bool {
 	return !strings.HasSuffix(text, "P") && !strings.HasSuffix(text, "T")
 }
 
-// Duration is a days and time duration, as P1DT12H, in ticks.
+// Duration returns a days and time duration, such as P1DT12H, in ticks.
 func (k Tick) Duration(text string) (int64, error) {
 	parts := dayForm.FindStringSubmatch(text)
 	if parts == nil || !hasParts(text) {
@@ -35,7 +35,7 @@ func (k Tick) Duration(text string) (int64, error) {
 	return counted(parts[1], append(parts[2:6], fmt.Sprint(fraction)), []int64{secondsOfDay * second, 3600 * second, 60 * second, second, 1})
 }
 
-// Months is a years and months duration, as P1Y6M, in months.
+// Months returns a years and months duration, such as P1Y6M, in months.
 func Months(text string) (int64, error) {
 	parts := monthForm.FindStringSubmatch(text)
 	if parts == nil || !hasParts(text) {
@@ -44,10 +44,10 @@ func Months(text string) (int64, error) {
 	return counted(parts[1], parts[2:4], []int64{12, 1})
 }
 
-// mostDigits is how many digits a number in the range has.
+// mostDigits limits the digits of a number in range.
 const mostDigits = 19
 
-// counted is the sum of parts, each of which has so many units.
+// counted returns the sum of parts, each with its number of units.
 func counted(sign string, parts []string, units []int64) (int64, error) {
 	sum := new(big.Int)
 	for i, part := range parts {
@@ -70,7 +70,7 @@ func counted(sign string, parts []string, units []int64) (int64, error) {
 	return sum.Int64(), nil
 }
 
-// DurationText is a days and time duration of some ticks.
+// DurationText returns a days and time duration of this many ticks.
 func (k Tick) DurationText(ticks int64) string {
 	sign, all := signed(ticks)
 	size, fraction := all/uint64(k.PerSecond()), k.fractionText(all)
@@ -90,7 +90,7 @@ func (k Tick) DurationText(ticks int64) string {
 	return sign + "P" + date + time
 }
 
-// MonthsText is a years and months duration of some months.
+// MonthsText returns a years and months duration of this many months.
 func MonthsText(months int64) string {
 	sign, size := signed(months)
 	if size == 0 {
@@ -106,7 +106,7 @@ func part(number uint64, letter string) string {
 	return fmt.Sprint(number, letter)
 }
 
-// signed is the sign of a number, and its size.
+// signed returns a number's sign and absolute value.
 func signed(number int64) (sign string, size uint64) {
 	if number < 0 {
 		return "-", -uint64(number)

@@ -8,19 +8,19 @@ import (
 
 const secondsOfDay = 86_400
 
-// MostDecimals is how many decimals of a second are counted at most: of more the years would pass the range.
+// MostDecimals limits the decimals of a second: with more, the years would be out of range.
 const MostDecimals = 6
 
-// A Tick is what times and days and time durations are counted in: 10 to the power of -Decimals of a second.
+// A Tick is the unit of times and of days and time durations: 10 to the power of -Decimals of a second.
 type Tick struct{ Decimals int }
 
-// ErrFraction says that a text has more decimals of a second than are counted.
+// ErrFraction means that a text has too many decimals of a second.
 var ErrFraction = errors.New("it has more decimals of a second than are taken")
 
-// ErrLong says that a duration is past the range of whole numbers.
+// ErrLong means that a duration is out of range.
 var ErrLong = errors.New("it is too long")
 
-// PerSecond is how many ticks a second has.
+// PerSecond returns the ticks in a second.
 func (k Tick) PerSecond() int64 {
 	ticks := int64(1)
 	for i := 0; i < k.Decimals; i++ {
@@ -29,10 +29,10 @@ func (k Tick) PerSecond() int64 {
 	return ticks
 }
 
-// PerDay is how many ticks a day has.
+// PerDay returns the ticks in a day.
 func (k Tick) PerDay() int64 { return secondsOfDay * k.PerSecond() }
 
-// fraction is that of a second, of which the digits are given, in ticks.
+// fraction returns a fraction of a second, given its digits, in ticks.
 func (k Tick) fraction(digits string) (int64, error) {
 	digits = strings.TrimRight(digits, "0")
 	if len(digits) > k.Decimals {
@@ -48,7 +48,7 @@ func (k Tick) fraction(digits string) (int64, error) {
 	return ticks, nil
 }
 
-// fractionText is a fraction of a second with its point; empty where it is 0.
+// fractionText returns a fraction of a second with its point, or "" if it is 0.
 func (k Tick) fractionText(ticks uint64) string {
 	ticks %= uint64(k.PerSecond())
 	if ticks == 0 {
@@ -57,7 +57,7 @@ func (k Tick) fractionText(ticks uint64) string {
 	return "." + strings.TrimRight(fmt.Sprintf("%0*d", k.Decimals, ticks), "0")
 }
 
-// DecimalsIn is how many decimals of a second a time or a duration has.
+// DecimalsIn returns the decimals of a second in a time or duration.
 func DecimalsIn(text string) int {
 	_, after, is := strings.Cut(text, ".")
 	if !is {

@@ -5,7 +5,7 @@ import (
 	"testing"
 )
 
-// whole has whole seconds alone.
+// whole has whole seconds.
 var whole = Tick{}
 
 // TestTicks has fractions of a second.

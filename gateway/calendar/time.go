@@ -10,8 +10,8 @@ import (
 
 var timeForm = regexp.MustCompile(`^([0-9]{2}):([0-9]{2}):([0-9]{2})(?:\.([0-9]+))?(Z|[+-][0-9]{2}:[0-9]{2})?$`)
 
-// Time is a time as 12:30:00, in ticks from midnight; with an offset, as 12:30:00+02:00, from midnight in UTC, and so it may be
-// below 0 or over a day.
+// Time returns a time such as 12:30:00 in ticks from midnight. With an offset, such as 12:30:00+02:00, it counts from midnight
+// in UTC, and may be negative or over a day.
 func (k Tick) Time(text string) (ticks int64, hasOffset bool, err error) {
 	parts := timeForm.FindStringSubmatch(text)
 	if parts == nil {
@@ -39,8 +39,7 @@ func (k Tick) Time(text string) (ticks int64, hasOffset bool, err error) {
 	return ticks - int64(offset)*k.PerSecond(), true, err
 }
 
-// DateTime is a date and a time as 2026-01-31T12:30:00, in ticks of all days, of which 0000-12-31 has the first; with an offset
-// in UTC.
+// DateTime returns a date and time such as 2026-01-31T12:30:00 in ticks from the start of 0000-12-31; with an offset, in UTC.
 func (k Tick) DateTime(text string) (ticks int64, hasOffset bool, err error) {
 	date, time, both := strings.Cut(text, "T")
 	if !both {
@@ -54,7 +53,7 @@ func (k Tick) DateTime(text string) (ticks int64, hasOffset bool, err error) {
 	return day*k.PerDay() + ticks, hasOffset, err
 }
 
-// TimeText is a time of the ticks from midnight; empty where they are none of a day.
+// TimeText returns the time of ticks from midnight, or "" if they are not within a day.
 func (k Tick) TimeText(ticks int64) string {
 	if ticks < 0 || ticks >= k.PerDay() {
 		return ""
@@ -63,7 +62,7 @@ func (k Tick) TimeText(ticks int64) string {
 	return fmt.Sprintf("%02d:%02d:%02d", seconds/3600, seconds%3600/60, seconds%60) + k.fractionText(uint64(ticks))
 }
 
-// DateTimeText is a date and a time of the ticks of all days; empty where they are past the years.
+// DateTimeText returns the date and time of ticks, or "" if they are out of range.
 func (k Tick) DateTimeText(ticks int64) string {
 	if ticks < 0 {
 		return ""
@@ -80,7 +79,7 @@ var (
 	errNoOffset = errors.New("it has no offset, and one is due, as +02:00 or Z")
 )
 
-// Sorted is a reader of texts of which all have an offset, or none.
+// Sorted returns a reader for texts that all have an offset, or all have none.
 func Sorted(read func(string) (int64, bool, error), hasOffset bool) func(string) (int64, error) {
 	return func(text string) (int64, error) {
 		ticks, has, err := read(text)

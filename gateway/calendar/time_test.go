@@ -27,7 +27,7 @@ func TestTimes(t *testing.T) {
 	}
 }
 
-// TestDateTimes holds dates with times against Go's calendar.
+// TestDateTimes compares dates with times with Go's calendar.
 func TestDateTimes(t *testing.T) {
 	base := time.Date(1, 1, 1, 0, 0, 0, 0, time.UTC).Unix() - secondsOfDay
 	for _, text := range []string{"0001-01-01T00:00:00", "1969-12-31T23:59:59", "2024-02-29T12:30:15", "9999-12-31T23:59:59"} {

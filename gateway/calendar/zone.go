@@ -6,16 +6,16 @@ import (
 	"strconv"
 	"time"
 
-	// The zones' own data: the machine may have none.
+	// Own zone data, as the machine may have none.
 	_ "time/tzdata"
 )
 
 var offsetForm = regexp.MustCompile(`^([+-])([0-9]{2}):([0-9]{2})$`)
 
-// MostOffset is how far from UTC an offset is at most, in seconds: 14 hours.
+// MostOffset limits an offset from UTC, in seconds: 14 hours.
 const MostOffset = 14 * 3600
 
-// Offset is an offset as +02:00, or Z, in seconds.
+// Offset returns an offset such as +02:00, or Z, in seconds.
 func Offset(text string) (int, error) {
 	if text == "Z" {
 		return 0, nil
@@ -36,7 +36,7 @@ func Offset(text string) (int, error) {
 	return seconds, nil
 }
 
-// Zone is a zone by its name, as Europe/Berlin, or by its offset.
+// Zone returns a zone by name, such as Europe/Berlin, or by offset.
 func Zone(text string) (*time.Location, error) {
 	if seconds, err := Offset(text); err == nil {
 		return time.FixedZone(text, seconds), nil
@@ -51,13 +51,13 @@ func Zone(text string) (*time.Location, error) {
 	return zone, nil
 }
 
-// DayAt is the day in a zone.
+// DayAt returns the day in a zone.
 func DayAt(at time.Time, zone *time.Location) int64 {
 	year, month, day := at.In(zone).Date()
 	return dayOf(year, int(month), day)
 }
 
-// At is a time in ticks of all days in UTC, as DateTime has them.
+// At returns a time in ticks in UTC, as DateTime does.
 func (k Tick) At(at time.Time) int64 {
 	at = at.UTC()
 	seconds := DayAt(at, time.UTC)*secondsOfDay + int64(at.Hour()*3600+at.Minute()*60+at.Second())

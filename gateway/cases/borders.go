@@ -13,32 +13,32 @@ import (
 	"gateway/model"
 )
 
-// Borders are rows at the borders of a decision table: for each rule, values that it tests, and in each column in turn both sides
-// of each end of an interval, each word, another one, and null.
+// Borders are rows at the borders of a decision table: for each rule, values that it tests; and in each column in turn both
+// sides of each end of an interval, each word, another one, and null.
 type Borders struct {
-	// Name is the word of the table's decision, with the words of the entries that have the table.
+	// Name is the word of the table's decision, with those of the entries around the table.
 	Name string
-	// Decision is the word of the decision, and Given are those of the decisions whose values the rows bring.
+	// Decision is the word of the decision, Given those of the decisions whose values the rows bring.
 	Decision string
 	Given    []string
-	// Rows are objects of inputs, each once.
+	// Rows are different objects of inputs.
 	Rows [][]byte
-	// columns are the paths of those that the rows set, and values has what each row has there.
+	// columns are the paths that the rows set, values what each row has there.
 	columns [][]string
 	values  [][]any
-	// Calculated are columns that the rows can't set: their expressions are no names.
+	// Calculated are columns that the rows can't set, as their expressions are not names.
 	Calculated []string
-	// IsCut says that not all rows are tried: values of other rules, or whole rules, are left out.
+	// IsCut means that some rows are left out: values of other rules, or whole rules.
 	IsCut bool
 }
 
-// MostBorders is the most rows of one table, and mostAsked the most times that a rule is asked over all of them.
+// MostBorders limits a table's rows, mostAsked how often rules are evaluated over all of them.
 const (
 	MostBorders = 10_000
 	mostAsked   = 5_000_000
 )
 
-// A border is a column with the values that are tried in it.
+// A border is a column with the values tried in it.
 type border struct {
 	path   []string
 	values []any
@@ -56,12 +56,12 @@ type bordered struct {
 	name     string
 	table    *model.Table
 	decision *model.Decision
-	// local are the words of entries, which are no inputs; written is the table as the file has it, nil where it has none.
+	// local are the words of entries, which are not inputs; written is the table as in the file, or nil.
 	local   map[string]bool
 	written *model.Table
 }
 
-// Borders are those of each table of a decision.
+// Borders returns the borders of each table of a decision.
 func (s *Subject) Borders(word string) (all []*Borders, err error) {
 	tables, err := s.tables(word)
 	for at := range tables {
@@ -72,8 +72,8 @@ func (s *Subject) Borders(word string) (all []*Borders, err error) {
 	return all, err
 }
 
-// RuleBorders are those of some rules of a decision that is a table, by their numbers from 1; nil picks all. It is nil where the
-// decision is none.
+// RuleBorders returns the borders of some rules of a decision that is a table, by number from 1; nil means all. It returns nil
+// for other decisions.
 func (s *Subject) RuleBorders(word string, only map[int]bool) (*Borders, error) {
 	tables, err := s.tables(word)
 	if err != nil || len(tables) == 0 || tables[len(tables)-1].name != word {
@@ -96,7 +96,7 @@ func picked(rules []model.Rule, only map[int]bool) (some []model.Rule) {
 	return some
 }
 
-// tables are those of a decision that its file has; the last is that of its result, where that is a table.
+// tables returns a decision's tables as in its file; the last is that of its result, if that is a table.
 func (s *Subject) tables(word string) ([]bordered, error) {
 	if s.parsed == nil {
 		if err := s.parse(); err != nil {
@@ -112,7 +112,7 @@ func (s *Subject) tables(word string) ([]bordered, error) {
 	return f.found, nil
 }
 
-// parse reads the logic of the model.
+// parse reads the model's logic.
 func (s *Subject) parse() error {
 	parsed, written, err := s.logic()
 	if err != nil {
@@ -126,7 +126,7 @@ func (s *Subject) parse() error {
 	return nil
 }
 
-// logic is the model, and how its file has it.
+// logic returns the model, and how its file has it.
 func (s *Subject) logic() (*model.Model, *model.Written, error) {
 	parsed, err := model.Parse(s.source.Text)
 	if err != nil {
@@ -139,7 +139,7 @@ func (s *Subject) logic() (*model.Model, *model.Written, error) {
 	return parsed, spelling.Written(parsed), nil
 }
 
-// Written is the model as its file has it.
+// Written returns the model as in its file.
 func (s *Subject) Written() (*model.Model, error) {
 	_, written, err := s.logic()
 	if err != nil {
@@ -177,7 +177,7 @@ func (f *finder) find(e model.Expression, pointer, name string) {
 	}
 }
 
-// bordersOf are the borders of some rules of a table.
+// bordersOf returns the borders of some rules of a table.
 func (s *Subject) bordersOf(t *bordered, rules []model.Rule) *Borders {
 	b := &Borders{Name: t.name, Decision: t.decision.Name}
 	var columns []border
@@ -213,7 +213,7 @@ func contains(all []string, one string) bool {
 	return false
 }
 
-// valuesOf are the values that are tried in a column.
+// valuesOf returns the values tried in a column.
 func valuesOf(rules []model.Rule, column int, step func([]string) *big.Rat, path []string) []any {
 	if path == nil {
 		return nil
@@ -253,7 +253,7 @@ func valuesOf(rules []model.Rule, column int, step func([]string) *big.Rat, path
 	return values
 }
 
-// An ordered value has its number ready, since it is compared often: as a whole one where isWhole, else as a fraction, or nil.
+// An ordered value has its number parsed, as it is often compared: a whole number if isWhole, else a fraction, or nil.
 type ordered struct {
 	text     string
 	value    any
@@ -280,7 +280,7 @@ func (o *ordered) rational() *big.Rat {
 	return o.fraction
 }
 
-// isBefore orders numbers by their values, and others by their texts, null last.
+// isBefore orders numbers by value, and others by text, null last.
 func (o *ordered) isBefore(other *ordered) bool {
 	if o.isWhole && other.isWhole {
 		return o.whole < other.whole
@@ -299,7 +299,7 @@ func rational(number json.Number) *big.Rat {
 	return value
 }
 
-// tokenValue is the value of a literal.
+// tokenValue returns the value of a literal.
 func tokenValue(token string) (any, bool) {
 	switch c := token[0]; {
 	case c == '"':
@@ -311,7 +311,7 @@ func tokenValue(token string) (any, bool) {
 	return value, is
 }
 
-// moved is a number of the model, which counts steps, so many steps away, as requests have it.
+// moved returns a number that is this many steps from one of the model, which counts steps, in the form of requests.
 func moved(number json.Number, step *big.Rat, by int64) json.Number {
 	value := rational(number)
 	value.Add(value, big.NewRat(by, 1)).Mul(value, step)
@@ -322,8 +322,8 @@ func moved(number json.Number, step *big.Rat, by int64) json.Number {
 	return json.Number(text)
 }
 
-// rows makes the rows: around a base of each rule, each column in turn has each of its values. Where these would be too many, it has
-// those of the rule alone, and rules are left out all over the table.
+// rows makes the rows: around a base of each rule, each column in turn has each of its values. If these are too many, only the
+// rule's values are used, and rules are left out evenly over the table.
 func (b *Borders) rows(rules []model.Rule, asked int, columns []border, step func([]string) *big.Rat) {
 	seen := map[string]bool{}
 	most := MostBorders
@@ -344,7 +344,7 @@ func (b *Borders) rows(rules []model.Rule, asked int, columns []border, step fun
 	}
 }
 
-// usualBorders is how many values most cells have: both sides of a number and itself, and null.
+// usualBorders is how many values most cells have: a number and both sides of it, and null.
 const usualBorders = 4
 
 func countOf(columns []border) (count int) {
@@ -354,7 +354,7 @@ func countOf(columns []border) (count int) {
 	return count
 }
 
-// spread are so many rules, and one at least, with as many left out between any two of them.
+// spread returns up to count rules, at least one, evenly spaced.
 func spread(rules []model.Rule, count int) []model.Rule {
 	if count < 1 {
 		count = 1
@@ -369,7 +369,7 @@ func spread(rules []model.Rule, count int) []model.Rule {
 	return some
 }
 
-// bordersOfRule are columns with the values of one rule.
+// bordersOfRule returns columns with the values of one rule.
 func bordersOfRule(rule model.Rule, columns []border, step func([]string) *big.Rat) []border {
 	own := make([]border, len(columns))
 	for i := range columns {
@@ -378,7 +378,7 @@ func bordersOfRule(rule model.Rule, columns []border, step func([]string) *big.R
 	return own
 }
 
-// around adds the rows around a rule, up to most in all.
+// around adds the rows around a rule, up to a total.
 func (b *Borders) around(rule model.Rule, columns []border, step func([]string) *big.Rat, seen map[string]bool, most int) {
 	base := make([]any, len(columns))
 	for i := range columns {
@@ -402,7 +402,7 @@ func (b *Borders) along(columns []border, base []any, column int, seen map[strin
 	}
 }
 
-// inside is a value that a test most likely holds for: the first literal, or the one beside it where it is no part of the interval.
+// inside returns a value that a test probably holds for: the first literal, or the one next to it if it is not in the interval.
 func inside(test string, column border, step func([]string) *big.Rat) any {
 	values := column.values
 	trimmed := strings.TrimSpace(test)
@@ -471,7 +471,7 @@ func (b *Borders) add(columns []border, values []any, seen map[string]bool) {
 	}
 }
 
-// CSV is a file of the rows, in the words of the model's file.
+// CSV returns a file of the rows, with the file's names.
 func (s *Subject) CSV(b *Borders, comma bool) []byte {
 	separator := byte(',')
 	if comma {
@@ -504,7 +504,7 @@ func (s *Subject) CSV(b *Borders, comma bool) []byte {
 	return made
 }
 
-// schema is the type of a part of an input; nil where none is known.
+// schema returns the type of a part of an input, or nil.
 func (s *Subject) schema(path []string) json.RawMessage {
 	schema := s.source.Types[path[0]]
 	for _, word := range path[1:] {
@@ -513,7 +513,7 @@ func (s *Subject) schema(path []string) json.RawMessage {
 	return schema
 }
 
-// Step is what the numbers of an input, or of a part of it, are counted in.
+// Step returns the unit of the numbers of an input or a part of it.
 func (s *Subject) Step(path []string) *big.Rat {
 	var form struct {
 		MultipleOf json.Number `json:"multipleOf"`

@@ -13,7 +13,7 @@ import (
 	"gateway/service"
 )
 
-// records reads all of a file, with the text of each record, or its fault.
+// records reads a whole file, and returns each record's text, or its fault.
 func records(t *testing.T, name, text string, options Options) (all []string) {
 	t.Helper()
 	f, err := Open(name, strings.NewReader(text), options)
@@ -63,7 +63,7 @@ func TestRecords(t *testing.T) {
 	}
 }
 
-// TestLongRows reads rows that are too long to be held: each is refused, and the next is read.
+// TestLongRows reads rows that are too long: each is refused, and the next is read.
 func TestLongRows(t *testing.T) {
 	long := strings.Repeat("x", MaxRow+10)
 	for name, row := range map[string]struct{ file, text, last string }{
@@ -83,7 +83,7 @@ func TestLongRows(t *testing.T) {
 	}
 }
 
-// TestRandomRecords writes random cells with encoding/csv, in several encodings, and reads them.
+// TestRandomRecords writes random cells with encoding/csv in several encodings, and reads them.
 func TestRandomRecords(t *testing.T) {
 	letters := []rune("ab \",;\n\r\té€😀'=")
 	random := rand.New(rand.NewSource(1))
@@ -134,7 +134,7 @@ func TestRandomRecords(t *testing.T) {
 	}
 }
 
-// encoded is a text as UTF-8 with or without a mark, or as UTF-16.
+// encoded returns a text as UTF-8 with or without a mark, or as UTF-16.
 func encoded(how int, text string) io.Reader {
 	switch how {
 	case 0:
@@ -267,7 +267,7 @@ func TestHeaders(t *testing.T) {
 	}
 }
 
-// TestWideHeaders has half a million columns that are not known: ten are reported.
+// TestWideHeaders has half a million unknown columns: ten are reported.
 func TestWideHeaders(t *testing.T) {
 	var names strings.Builder
 	for n := 0; names.Len() < MaxRow-10; n++ {
@@ -288,7 +288,7 @@ func TestWideHeaders(t *testing.T) {
 	}
 }
 
-// TestDecimalBorders has a column that counts in hundredths: its borders are decimals, a hundredth away.
+// TestDecimalBorders has a column in hundredths: its borders are decimals, a hundredth apart.
 func TestDecimalBorders(t *testing.T) {
 	text := `{"model":{"inputs":["a"],"decisions":[{"name":"d","needs":["a"],"expr":{"table":{"hit":"U","inputs":["a"],` +
 		`"outputs":[{"name":"o"}],"rules":[{"when":["<= 250"],"then":["1"]}]}}}],"services":[]},` +

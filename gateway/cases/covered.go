@@ -7,30 +7,30 @@ import (
 	"gateway/model"
 )
 
-// A Covered is a table with the rules that were reached.
+// A Covered is a table with its reached rules.
 type Covered struct {
-	// Name is that of the decision, and of the entry of it that has the table.
+	// Name is the name of the decision, and of its entry that has the table.
 	Name string
-	// Rules is how many rules there are; Unreached are those that no row hit, and Undecided those that hit and never decided.
+	// Rules is the number of rules; Unreached are those that no row hit, Undecided those that hit and never decided.
 	Rules                int
 	Unreached, Undecided []int
-	// Tests is how many cells of its input columns test something, and Untried are those of rules that hit at which no row missed.
+	// Tests is how many cells of its input columns test something, Untried are those of hit rules at which no row missed.
 	Tests   int
 	Untried []Cell
 	// unreached is how many of the tests are in rules that no row hit.
 	unreached int
 }
 
-// A Cell is one of a rule in an input column, in the words of the file.
+// A Cell is a cell of a rule in an input column, with the file's names.
 type Cell struct {
 	Rule         int
 	Column, Test string
 }
 
-// Reached is how many cells were reached: their rules hit, and missed there.
+// Reached returns how many cells were reached: their rules hit, and missed there.
 func (c *Covered) Reached() int { return c.Tests - c.unreached - len(c.Untried) }
 
-// Covered are all tables of the file with what was counted of them.
+// Covered returns all tables of the file with their counts.
 func (s *Subject) Covered(counts *coverage.Counts) ([]Covered, error) {
 	parsed, written, err := s.logic()
 	if err != nil {
@@ -47,7 +47,7 @@ func (s *Subject) Covered(counts *coverage.Counts) ([]Covered, error) {
 	return c.all, nil
 }
 
-// A coverer goes over the tables of a model as its file has it.
+// A coverer walks a model's tables as in its file.
 type coverer struct {
 	counted map[string]*coverage.Table
 	written *model.Written
@@ -86,7 +86,7 @@ func (c *coverer) table(t *model.Table, name string) {
 	c.all = append(c.all, it)
 }
 
-// cells adds what is said of the cells of a table.
+// cells adds the cells of a table.
 func (c *coverer) cells(t *model.Table, counted *coverage.Table, it *Covered) {
 	for _, rule := range it.Unreached {
 		it.unreached += tests(t.Rules[rule-1])
@@ -99,10 +99,10 @@ func (c *coverer) cells(t *model.Table, counted *coverage.Table, it *Covered) {
 	}
 }
 
-// always is the test of a cell that each value meets.
+// always is the test that every value meets.
 const always = "-"
 
-// tests is how many cells of a rule test something.
+// tests returns how many cells of a rule test something.
 func tests(rule model.Rule) (count int) {
 	for _, test := range rule.When {
 		if test != always {
@@ -112,7 +112,8 @@ func tests(rule model.Rule) (count int) {
 	return count
 }
 
-// untried are the cells of a rule at which it never missed. A test that the translation put into a column of its own misses there.
+// untried returns the cells of a rule at which it never missed. A test that the translation moved to its own column misses
+// there.
 func (c *coverer) untried(t *model.Table, rule int, missed [][]bool) (cells []Cell) {
 	translated := c.written.Origins[t].Table.Rules[rule].When
 	misses := func(column int) bool {

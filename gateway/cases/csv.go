@@ -12,11 +12,11 @@ import (
 // A cell is a part of a record: its text, without the quotes around it.
 type cell struct {
 	start, end int
-	// isDoubled says that it is in quotes, and has quotes that are written twice.
+	// isDoubled means that it is quoted and contains doubled quotes.
 	isDoubled bool
 }
 
-// text is what the cell stands for; room is used where that is not written as it is.
+// text returns the cell's value; room is used if that isn't written as it is.
 func (c cell) text(record, room []byte) []byte {
 	text := record[c.start:c.end]
 	if !c.isDoubled {
@@ -25,15 +25,15 @@ func (c cell) text(record, room []byte) []byte {
 	return append(room[:0], bytes.ReplaceAll(text, []byte(`""`), []byte(`"`))...)
 }
 
-// A quoteFault says where the quotes of a record are wrong.
+// A quoteFault is where a record's quotes are wrong.
 type quoteFault struct {
 	offset int
 	reason string
-	// isOpen says that the record ends within quotes.
+	// isOpen means that the record ends within quotes.
 	isOpen bool
 }
 
-// cells adds the cells of a record (RFC 4180), up to the first that has a fault.
+// cells adds the cells of a record (RFC 4180), up to the first with a fault.
 func cells(to []cell, text []byte, separator byte) ([]cell, *quoteFault) {
 	for at := 0; ; {
 		it, next, fault := cellAt(text, at, separator)
@@ -48,7 +48,7 @@ func cells(to []cell, text []byte, separator byte) ([]cell, *quoteFault) {
 	}
 }
 
-// cellAt is the cell that begins at a place; next is that of the separator after it, or the end.
+// cellAt returns the cell that begins at a place; next is the separator after it, or the end.
 func cellAt(text []byte, at int, separator byte) (it cell, next int, _ *quoteFault) {
 	if at == len(text) || text[at] != '"' {
 		length := bytes.IndexByte(text[at:], separator)
@@ -79,7 +79,8 @@ func cellAt(text []byte, at int, separator byte) (it cell, next int, _ *quoteFau
 	}
 }
 
-// isOpenAfter says whether a line ends within quotes, where it does or doesn't begin within some; ok that its quotes are right.
+// isOpenAfter reports whether a line ends within quotes, given whether it begins within some; ok means that its quotes are
+// right.
 func isOpenAfter(line []byte, isOpen bool, separator byte) (_, ok bool) {
 	at := 0
 	if isOpen {
@@ -102,7 +103,7 @@ func isOpenAfter(line []byte, isOpen bool, separator byte) (_, ok bool) {
 	return false, true
 }
 
-// closing is the place of the first quote that isn't written twice, or -1.
+// closing returns the index of the first quote that isn't doubled, or -1.
 func closing(text []byte) int {
 	for at := 0; ; at += 2 {
 		length := bytes.IndexByte(text[at:], '"')
@@ -115,8 +116,8 @@ func closing(text []byte) int {
 	}
 }
 
-// readCSV adds the next record: a line, or several where line ends are in quotes. A record whose quotes are wrong ends with its
-// first line, so that the lines after it are read as others are.
+// readCSV adds the next record: one line, or several if line ends are in quotes. A record with wrong quotes ends with its first
+// line, so that later lines are read normally.
 func (f *File) readCSV(b *Batch, record *Record) error {
 	start := len(b.room)
 	room, isLong, err := f.lines.next(b.room)
@@ -150,10 +151,10 @@ func (f *File) readCSV(b *Batch, record *Record) error {
 	return nil
 }
 
-// separators are those that are looked for in a header.
+// separators are those searched for in a header.
 const separators = ";,\t|"
 
-// readHeader reads the header, and the line of Excel that names the separator before it.
+// readHeader reads the header, and Excel's line with the separator before it.
 func (f *File) readHeader() *Fault {
 	f.Separator = f.options.Separator
 	text, fault := f.headerLine()
@@ -190,7 +191,7 @@ func (f *File) readHeader() *Fault {
 	return nil
 }
 
-// headerLine is the next line that has something.
+// headerLine returns the next nonempty line.
 func (f *File) headerLine() ([]byte, *Fault) {
 	for {
 		line, isLong, err := f.lines.next(nil)
@@ -228,7 +229,7 @@ func invalidAt(text []byte) int {
 	return at
 }
 
-// separatorOf is the separator that is most often outside of quotes.
+// separatorOf returns the separator that is most frequent outside of quotes.
 func separatorOf(header []byte, comma bool) byte {
 	counts, isQuoted := [256]int{}, false
 	for _, c := range header {
@@ -250,12 +251,12 @@ func separatorOf(header []byte, comma bool) byte {
 	return best
 }
 
-// canonical is a name with one blank for each run of them, and none around.
+// canonical returns a name with single blanks, and none around it.
 func canonical(name string) string {
 	return strings.Join(strings.Fields(name), " ")
 }
 
-// appendCell adds a text as a cell, in quotes where that is needed.
+// appendCell adds a text as a cell, in quotes if needed.
 func appendCell(to []byte, text []byte, separator byte) []byte {
 	isPlain := len(text) == 0 || text[0] != ' ' && text[len(text)-1] != ' '
 	for _, c := range text {

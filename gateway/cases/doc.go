@@ -1,8 +1,8 @@
-// Package cases reads files of rows, each a request or a test case, and writes what becomes of them in the same form: CSV, JSON
-// lines, a JSON array, or lines as serve reads them.
+// Package cases reads files of rows, each a request or a test case, and writes the results in the same form: CSV, JSON lines, a
+// JSON array, or lines as serve reads them.
 //
-// A row with a fault is refused at its place, and those after it are read all the same. No more than MaxRow bytes of a row are
-// held, however long it is: so encoding/csv doesn't serve here, which holds all that follows a quote that isn't closed.
+// A faulty row is refused with its place, and later rows are still read. At most MaxRow bytes of a row are held, however long
+// it is. That rules out encoding/csv, which holds everything after an unclosed quote.
 package cases
 
 import (
@@ -12,14 +12,14 @@ import (
 	"gateway/lines"
 )
 
-// MaxRow is the most bytes of a row.
+// MaxRow limits the bytes of a row.
 const MaxRow = lines.MaxLine
 
-// A Fault says why a row, or a whole file, is not taken.
+// A Fault says why a row, or a whole file, is refused.
 type Fault struct {
-	// Line and Column are those at which it is wrong, each from 1; a column is a byte. Column 0 is not known.
+	// Line and Column are the place of the fault, from 1. Columns are bytes; 0 means unknown.
 	Line, Column int
-	// Name is that of the column or the member, or empty.
+	// Name is the column or member, or "".
 	Name   string
 	Reason string
 }
@@ -35,5 +35,5 @@ func (f *Fault) Error() string {
 	return fmt.Sprintf("%s: %s", place, f.Reason)
 }
 
-// ErrForm is wrapped by the error of a file that is none of rows, or has a header that is not taken.
+// ErrForm is wrapped by the error of a file without rows, or with an invalid header.
 var ErrForm = errors.New("the file can't be read")

@@ -11,7 +11,7 @@ import (
 	"sync/atomic"
 )
 
-// A Form is how a file has its rows.
+// A Form is the form of a file's rows.
 type Form int
 
 // Forms of files. A line of Lines is an object of inputs, or a request as serve reads it.
@@ -21,28 +21,28 @@ const (
 	List
 )
 
-// Options say how a file is read.
+// Options says how a file is read.
 type Options struct {
-	// Comma says that numbers of CSV have a decimal comma.
+	// Comma means a decimal comma in CSV.
 	Comma bool
-	// Separator is that of the cells of CSV; 0 is found in the header.
+	// Separator separates CSV cells; 0 means it is found in the header.
 	Separator byte
-	// IsANSI says that a file which is not marked as UTF-8 or UTF-16 is Windows-1252.
+	// IsANSI means that a file not marked as UTF-8 or UTF-16 is Windows-1252.
 	IsANSI bool
-	// Unknown says that columns and members that the model doesn't know are left alone.
+	// Unknown means that unknown columns and members are ignored.
 	Unknown bool
 }
 
-// A Record is a row as it stands in a file.
+// A Record is a row as in a file.
 type Record struct {
-	// Line and Column are those at which it begins, each from 1; a column is a byte.
+	// Line and Column are where it begins, from 1. Columns are bytes.
 	Line, Column int
 	// Text has no line end.
 	Text  []byte
 	fault *Fault
 }
 
-// A Batch is some records that follow each other.
+// A Batch is some consecutive records.
 type Batch struct {
 	Records []Record
 	ends    []int
@@ -50,21 +50,21 @@ type Batch struct {
 }
 
 const (
-	// batchRows and batchBytes are the most of a batch, but that it has at least one row. Of those that are explained a batch has
-	// more, since a process is begun for each.
+	// batchRows and batchBytes limit a batch, which has at least one row. An explained batch has more rows, as a process is
+	// started for each.
 	batchRows     = 256
 	explainedRows = 2500
 	batchBytes    = 256 << 10
 )
 
-// A File is an open file of rows. Read reads it, one call at a time.
+// A File is an open file of rows. Read must not be called concurrently.
 type File struct {
 	Form Form
-	// Header has the names of a CSV file's columns.
+	// Header has a CSV file's column names.
 	Header []string
-	// Separator is that of a CSV file.
+	// Separator is a CSV file's separator.
 	Separator byte
-	// headerAt is the line of the header, and header its text.
+	// headerAt is the header's line number, header its text.
 	headerAt int
 	header   []byte
 	options  Options
@@ -73,7 +73,7 @@ type File struct {
 	count    *counter
 }
 
-// A counter counts the bytes that are read.
+// A counter counts the bytes read.
 type counter struct {
 	from io.Reader
 	read atomic.Int64
@@ -85,7 +85,7 @@ func (c *counter) Read(to []byte) (int, error) {
 	return n, err
 }
 
-// Open reads the begin of a file. Its form is that of its extension (.csv, .jsonl), or it is found in its first bytes.
+// Open reads the start of a file. The form is that of its extension (.csv, .jsonl), or is found in its first bytes.
 func Open(name string, from io.Reader, options Options) (*File, error) {
 	count := &counter{from: from}
 	text := decoded(count, options.IsANSI)
@@ -109,10 +109,10 @@ func Open(name string, from io.Reader, options Options) (*File, error) {
 	return f, nil
 }
 
-// mostBlanks is how many blanks may be before the first byte of JSON.
+// mostBlanks limits the blanks before the first byte of JSON.
 const mostBlanks = 1000
 
-// firstByte is the first byte that is no blank; it is not read.
+// firstByte returns the first nonblank byte, without reading it.
 func firstByte(from *bufio.Reader) (byte, error) {
 	begin, err := from.Peek(1)
 	for n := 1; len(begin) == n && n < mostBlanks; n++ {
@@ -124,13 +124,13 @@ func firstByte(from *bufio.Reader) (byte, error) {
 	return 0, err
 }
 
-// Done is how many bytes of the file were read, for any goroutine.
+// Done returns how many bytes of the file were read. Any goroutine may call it.
 func (f *File) Done() int64 { return f.count.read.Load() }
 
-// Read fills a batch, whose records are good until it is filled again. It gives io.EOF where there are no more.
+// Read fills a batch, whose records are valid until it is filled again. It returns io.EOF at the end.
 func (f *File) Read(b *Batch) error { return f.read(b, batchRows) }
 
-// read fills a batch with at most so many rows.
+// read fills a batch with at most this many rows.
 func (f *File) read(b *Batch, most int) error {
 	b.Records, b.ends, b.room = b.Records[:0], b.ends[:0], b.room[:0]
 	for len(b.Records) < most && len(b.room) < batchBytes {
@@ -159,12 +159,12 @@ func (f *File) read(b *Batch, most int) error {
 	return nil
 }
 
-// isBlank says whether a record has nothing. In a line of tabs these separate cells.
+// isBlank reports whether a record is empty. In a line of tabs these separate cells.
 func (f *File) isBlank(text []byte) bool {
 	return len(bytes.TrimSpace(text)) == 0 && (f.Form != CSV || f.Separator != '\t' || bytes.IndexByte(text, '\t') < 0)
 }
 
-// readRecord adds the text of the next record to the room of a batch.
+// readRecord adds the next record's text to a batch's room.
 func (f *File) readRecord(b *Batch, record *Record) error {
 	switch f.Form {
 	case CSV:

@@ -6,7 +6,7 @@ import (
 	"io"
 )
 
-// A listReader cuts a JSON array into its items. What is wrong within an item is found later.
+// A listReader splits a JSON array into its items. Faults within items are found later.
 type listReader struct {
 	from         *bufio.Reader
 	line, column int
@@ -14,7 +14,7 @@ type listReader struct {
 	isOver       bool
 }
 
-// byte reads a byte, and counts where it is.
+// byte reads a byte, and tracks its position.
 func (r *listReader) byte() (byte, error) {
 	c, err := r.from.ReadByte()
 	if err != nil {
@@ -27,7 +27,7 @@ func (r *listReader) byte() (byte, error) {
 	return c, nil
 }
 
-// read adds the next item to the room of a batch.
+// read adds the next item to a batch's room.
 func (r *listReader) read(b *Batch, record *Record) error {
 	if r.isOver {
 		return r.rest(record)
@@ -50,7 +50,7 @@ func (r *listReader) read(b *Batch, record *Record) error {
 	return r.item(c, b, record)
 }
 
-// skip is the next byte that is no blank.
+// skip returns the next nonblank byte.
 func (r *listReader) skip() (byte, error) {
 	for {
 		c, err := r.byte()
@@ -60,7 +60,7 @@ func (r *listReader) skip() (byte, error) {
 	}
 }
 
-// item adds an item that begins with a byte, up to the comma after it or the end of the list.
+// item adds an item that begins with a byte, up to the comma after it or the list's end.
 func (r *listReader) item(c byte, b *Batch, record *Record) (err error) {
 	start, depth, isText, isEscaped, isLong := len(b.room), 0, false, false, false
 	for ; ; c, err = r.byte() {
@@ -92,7 +92,7 @@ func (r *listReader) item(c byte, b *Batch, record *Record) (err error) {
 	}
 }
 
-// ended makes the record of a list that is not closed.
+// ended makes the record of an unclosed list.
 func (r *listReader) ended(err error, record *Record) error {
 	if !errors.Is(err, io.EOF) {
 		return err
@@ -103,7 +103,7 @@ func (r *listReader) ended(err error, record *Record) error {
 	return nil
 }
 
-// rest looks for what is after the list.
+// rest looks for something after the list.
 func (r *listReader) rest(record *Record) error {
 	if _, err := r.skip(); err != nil {
 		return err

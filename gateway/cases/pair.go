@@ -21,7 +21,7 @@ type Side struct {
 	Asker *Asker
 }
 
-// An Answered is a row with its answer, which stay good.
+// An Answered is a row with its answer; both stay valid.
 type Answered struct {
 	Line    int
 	Service string
@@ -29,10 +29,10 @@ type Answered struct {
 	Answer
 }
 
-// errUneven says that a file was read differently for two models.
+// errUneven means that a file was read differently for two models.
 var errUneven = errors.New("the files of the two models have other rows")
 
-// Pairs asks two models for the rows of a file, of which each side has opened its own, and hands both answers of each row to take.
+// Pairs asks two models about the rows of a file, which each side has opened, and calls take with both answers to each row.
 func Pairs(ctx context.Context, old, new *Side, take func(old, new *Answered) error) error {
 	ctx, stop := context.WithCancel(ctx)
 	defer stop()
@@ -99,7 +99,7 @@ func (s *Side) each(ctx context.Context, to chan<- *Answered) error {
 	})
 }
 
-// SameResult says whether two answers are the same. Numbers are by their values.
+// SameResult reports whether two answers are the same. Numbers are compared by value.
 func SameResult(old, new *Answer) bool {
 	if old.Result == nil || new.Result == nil {
 		return old.Result == nil && new.Result == nil && old.Fault == new.Fault
@@ -136,17 +136,17 @@ func (s *Side) Rules(ctx context.Context, rows []*Answered) ([]string, error) {
 	ctx, stop := context.WithTimeout(ctx, s.Asker.Deadline*time.Duration(len(jobs))+time.Minute)
 	defer stop()
 	explainer := &engine.Explainer{Path: s.Asker.Path, Memory: s.Asker.Memory}
-	told, err := explainer.Explain(ctx, s.Asked.Model(), jobs, func(int) bool { return true })
+	explanations, err := explainer.Explain(ctx, s.Asked.Model(), jobs, func(int) bool { return true })
 	if err != nil {
 		return nil, fmt.Errorf("asking for the rules: %w", err)
 	}
-	for i := range told {
-		rules[at[i]] = ShownRules(rulesOf(s.Asked.Explained(told[i].Decisions)))
+	for i := range explanations {
+		rules[at[i]] = ShownRules(rulesOf(s.Asked.Explained(explanations[i].Decisions)))
 	}
 	return rules, nil
 }
 
-// RowsOf is a file of JSON lines with these rows.
+// RowsOf returns a file of JSON lines with these rows.
 func RowsOf(rows [][]byte) io.Reader {
 	return bytes.NewReader(append(bytes.Join(rows, []byte("\n")), '\n'))
 }

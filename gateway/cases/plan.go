@@ -9,13 +9,13 @@ import (
 	"gateway/service"
 )
 
-// Marks of columns and members: those that are due, and those that are left alone.
+// Marks of columns and members: expected ones, and ignored ones.
 const (
 	dueMark   = '='
 	asideMark = '#'
 )
 
-// The columns and members that results have beside the answers.
+// The columns and members of results besides the answers.
 const (
 	faultName = "#fault"
 	rulesName = "#rules"
@@ -28,23 +28,23 @@ const (
 	aside use = iota
 	input
 	due
-	// answered is a column of results, which is written anew.
+	// answered is a column of results, which is written again.
 	answered
 )
 
-// A column is one of a CSV file.
+// A column is a CSV column.
 type column struct {
 	name string
 	use  use
-	// word is that of an input or a decision, and path has the names of what is meant within it.
+	// word is that of an input or decision, path the names within it.
 	word string
 	path []string
 	kind kind
 }
 
-// A node is an object that columns form: a part of it, or a value.
+// A node is an object formed by columns: a part of it, or a value.
 type node struct {
-	// key is the member's, with its colon.
+	// key is the member's key, with its colon.
 	key    []byte
 	column int
 	parts  []*node
@@ -55,14 +55,14 @@ type node struct {
 type Question struct {
 	Source  *service.Source
 	Service string
-	// Outputs are the words of the decisions that are answered.
+	// Outputs are the words of the answered decisions.
 	Outputs []string
 	subject *Subject
 	// given are the decisions whose values the request brings.
 	given map[string]bool
 }
 
-// Question is what the rows of a file ask, as Outputs has it.
+// Question returns the question of a file's rows, with the outputs of Outputs.
 func (s *Subject) Question(name string) (*Question, error) {
 	outputs, err := s.Outputs(name)
 	if err != nil {
@@ -82,7 +82,7 @@ func (s *Subject) Question(name string) (*Question, error) {
 	return q, nil
 }
 
-// QuestionOf asks for some decisions, where requests bring the values of given ones.
+// QuestionOf asks for some decisions, with the values of given ones in requests.
 func (s *Subject) QuestionOf(outputs, given []string) (*Question, error) {
 	source, word, err := s.Asking(outputs, given)
 	if err != nil {
@@ -95,7 +95,7 @@ func (s *Subject) QuestionOf(outputs, given []string) (*Question, error) {
 	return q, nil
 }
 
-// nameOf is what a row asks for, by its name: a service, or decisions.
+// nameOf returns the name of what a row asks: a service, or decisions.
 func (q *Question) nameOf(row *Row) string {
 	if row.Service != "" {
 		return q.subject.Name(row.Service)
@@ -110,7 +110,7 @@ func (q *Question) nameOf(row *Row) string {
 	return strings.Join(names, ", ")
 }
 
-// Named has the names of the file in place of the words of inputs.
+// Named returns inputs with the file's names instead of words.
 func (p *Plan) Named(inputs []byte) []byte {
 	names := p.question.subject.source.Names
 	if len(names) == 0 {
@@ -123,18 +123,18 @@ func (p *Plan) Named(inputs []byte) []byte {
 	return lines.Compact(nil, lines.Renamed(tree, names))
 }
 
-// A Plan is how the rows of a file are read for a question.
+// A Plan is how a file's rows are read for a question.
 type Plan struct {
 	file     *File
 	question *Question
 	columns  []column
 	root     node
-	// isCopied says that rows of results begin with the rows as they were read.
+	// isCopied means that rows of results begin with the rows as read.
 	isCopied bool
 	results  []resultColumn
 }
 
-// UnknownTo is the name of the first column that neither plan knows; empty where there is none.
+// UnknownTo returns the first column that neither plan knows, or "".
 func (p *Plan) UnknownTo(other *Plan) string {
 	for at, it := range p.columns {
 		if it.use == aside && !isMarked(it.name) && other.columns[at].use == aside {
@@ -144,10 +144,10 @@ func (p *Plan) UnknownTo(other *Plan) string {
 	return ""
 }
 
-// mostFaults is how many faults of a header are reported.
+// mostFaults limits the reported faults of a header.
 const mostFaults = 10
 
-// A HeaderFaults is the error of a header with columns that are not taken.
+// A HeaderFaults is the error of a header with invalid columns.
 type HeaderFaults []*Fault
 
 func (h HeaderFaults) Error() string {
@@ -158,7 +158,7 @@ func (h HeaderFaults) Error() string {
 	return strings.Join(all, "\n")
 }
 
-// In is the error with the name of the file before each place.
+// In returns the error with the file's name before each place.
 func (h HeaderFaults) In(file string) error {
 	var all []string
 	for _, fault := range h {
@@ -167,7 +167,7 @@ func (h HeaderFaults) In(file string) error {
 	return fmt.Errorf("%w\n%s", ErrForm, strings.Join(all, "\n"))
 }
 
-// Plan reads the header of a CSV file for a question. The error is a HeaderFaults where columns are not known.
+// Plan reads a CSV file's header for a question. The error is a HeaderFaults if columns are unknown.
 func (f *File) Plan(q *Question, isRun bool) (*Plan, error) {
 	p := &Plan{file: f, question: q, isCopied: true}
 	p.resultColumns()
@@ -222,7 +222,7 @@ func (n *node) add(key []byte, path []string, at int) string {
 	return part.add(quotedKey(path[0]), path[1:], at)
 }
 
-// column finds what a column is for; or says why it is for nothing.
+// column finds what a column is for, or says why it is invalid.
 func (p *Plan) column(name string) (column, string) {
 	switch {
 	case name == faultName || name == rulesName:
@@ -267,7 +267,7 @@ func (q *Question) input(name string) (column, string) {
 	return column{word: word, path: path, kind: kindOf(schema)}, ""
 }
 
-// property is the schema of a property, which is called by its word or its name in the file.
+// property returns the schema of a property, named by its word or its name in the file.
 func (s *Subject) property(properties map[string]json.RawMessage, name string) (json.RawMessage, bool) {
 	for word, schema := range properties {
 		if word == name || canonical(s.partName(word)) == name {
@@ -300,7 +300,7 @@ func (s *Subject) due(name string) (column, string) {
 	return it, ""
 }
 
-// found is the word of a name, and what is named within it: the longest name before a point that is known.
+// found returns the word of a name, and the path within it: the longest known name before a point.
 func found(name string, words map[string]string) (word string, path []string) {
 	if word, is := words[name]; is {
 		return word, nil

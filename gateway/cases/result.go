@@ -10,21 +10,21 @@ import (
 	"gateway/lines"
 )
 
-// An Answer is what became of a row.
+// An Answer is the outcome of a row.
 type Answer struct {
-	// Result is the text of the result, with the names of the file: the value of the only output, or an object of all.
+	// Result is the text of the result, with the file's names: the only output's value, or an object of all.
 	Result []byte
-	// Fault is why there is none, or empty: IsRefused says that the row was not taken, IsFailed that an engine had no answer, and
-	// else it is the answer of the model.
+	// Fault is why there is none, or "". IsRefused means that the row was not taken, IsFailed that no engine answered;
+	// otherwise it is the model's answer.
 	Fault               string
 	IsRefused, IsFailed bool
-	// Rules are those that decided, where that is asked for.
+	// Rules are those that decided, if requested.
 	Rules map[string][]int
-	// Told is how the answer came about, in the form of `desk explain`, where that is asked for.
+	// Told is the explanation in the form of `desk explain`, if requested.
 	Told []byte
 }
 
-// A resultColumn is one that results add.
+// A resultColumn is a column added by results.
 type resultColumn struct {
 	// name begins with the mark.
 	name   string
@@ -49,18 +49,18 @@ func (p *Plan) resultColumns() {
 	}
 }
 
-// A Writer writes results in the form of the file.
+// A Writer writes results in the file's form.
 type Writer struct {
 	plan *Plan
-	// hasRules says that the rules that decided are written too.
+	// hasRules means that the deciding rules are written too.
 	hasRules bool
 	count    int
 }
 
-// Writer is a new one.
+// Writer returns a new Writer.
 func (p *Plan) Writer(hasRules bool) *Writer { return &Writer{plan: p, hasRules: hasRules} }
 
-// Begin adds what is before all rows.
+// Begin adds what goes before all rows.
 func (w *Writer) Begin(to []byte) []byte {
 	switch w.plan.file.Form {
 	case List:
@@ -84,7 +84,7 @@ func (w *Writer) Begin(to []byte) []byte {
 	return append(to, '\n')
 }
 
-// End adds what is after all rows.
+// End adds what goes after all rows.
 func (w *Writer) End(to []byte) []byte {
 	if w.plan.file.Form == List {
 		return append(to, "\n]\n"...)
@@ -126,7 +126,7 @@ func (w *Writer) csvRow(to []byte, row *Row, answer *Answer) []byte {
 	return append(to, '\n')
 }
 
-// keptCells adds the cells that were read, without those that are written anew.
+// keptCells adds the cells read, without those that are written again.
 func (w *Writer) keptCells(to []byte, row *Row) []byte {
 	separator := w.plan.file.Separator
 	for at, column := range w.plan.columns {
@@ -141,7 +141,7 @@ func (w *Writer) keptCells(to []byte, row *Row) []byte {
 	return to
 }
 
-// answers adds the cells of an answer, each with the separator after it.
+// answers adds the cells of an answer, each followed by the separator.
 func (w *Writer) answers(to []byte, answer *Answer) []byte {
 	results, separator := w.plan.results, w.plan.file.Separator
 	if answer.Result == nil {
@@ -167,7 +167,7 @@ func (w *Writer) answers(to []byte, answer *Answer) []byte {
 	return to
 }
 
-// within is a part of a value; null where there is none.
+// within returns a part of a value, or null.
 func within(value any, path []string) any {
 	for _, name := range path {
 		members, _ := value.(map[string]any)
@@ -176,7 +176,7 @@ func within(value any, path []string) any {
 	return value
 }
 
-// valueCell adds a value as a cell, from which the same value is read.
+// valueCell adds a value as a cell that reads as the same value.
 func (w *Writer) valueCell(to []byte, k kind, value []byte) []byte {
 	comma, separator := w.plan.file.options.Comma, w.plan.file.Separator
 	switch c := value[0]; {
@@ -192,7 +192,7 @@ func (w *Writer) valueCell(to []byte, k kind, value []byte) []byte {
 	return appendCell(to, value, separator)
 }
 
-// orEmpty is a text that has something.
+// orEmpty returns a text that is not nil.
 func orEmpty(text []byte) []byte {
 	if len(text) == 0 {
 		return []byte(" ")
@@ -234,7 +234,7 @@ func (w *Writer) jsonRow(to []byte, row *Row, answer *Answer) []byte {
 	return append(to, '}')
 }
 
-// isAnswer says whether a member is one that results write anew.
+// isAnswer reports whether results write this member again.
 func (w *Writer) isAnswer(key string, row *Row) bool {
 	return key == faultName || key == rulesName || key != "" && key[0] == dueMark || key == "result" && row.Service != ""
 }
@@ -255,7 +255,7 @@ func appendKey(to []byte, begin int, key string) []byte {
 	return append(lines.AppendQuoted(to, key), ':')
 }
 
-// ShownRules has the rules that decided on one line, as price 3; risk 1, 2.
+// ShownRules returns the deciding rules on one line, such as price 3; risk 1, 2.
 func ShownRules(rules map[string][]int) string {
 	names := make([]string, 0, len(rules))
 	for name := range rules {

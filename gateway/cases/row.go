@@ -12,46 +12,46 @@ import (
 // A Row is a request, or a test case.
 type Row struct {
 	*Record
-	// Service is the one that a line names, as serve reads it; else it is empty.
+	// Service is the service that a line names, as serve reads it, or "".
 	Service string
 	// Inputs is the object of the inputs.
 	Inputs []byte
-	// Dues are what is due.
+	// Dues are the expected values.
 	Dues []Due
-	// IsSkipped says that it is another line of serve, which asks nothing.
+	// IsSkipped means another line of serve, which asks nothing.
 	IsSkipped bool
-	// cells are what the results begin with.
+	// cells are the cells with which results begin.
 	cells []cell
 }
 
-// Fault is why the row is not taken, or nil.
+// Fault returns why the row is refused, or nil.
 func (r *Row) Fault() *Fault { return r.fault }
 
-// Refuse notes why it is not taken.
+// Refuse notes why the row is refused.
 func (r *Row) Refuse(fault *Fault) { r.fault = fault }
 
-// A Due is a value that is due.
+// A Due is an expected value.
 type Due struct {
-	// Name is as the file has it, without its mark.
+	// Name is as in the file, without its mark.
 	Name string
-	// Decision is the word of a decision, and Path has names within its result.
+	// Decision is a decision's word, Path the names within its result.
 	Decision string
 	Path     []string
-	// Value is in JSON. Text is the cell of CSV that it is read from, where its type is not known; else nil.
+	// Value is JSON. Text is the CSV cell that it is read from if its type is not known; else nil.
 	Value, Text []byte
 }
 
-// A Parser reads rows of a file. Each goroutine has its own.
+// A Parser reads a file's rows. Each goroutine needs its own.
 type Parser struct {
 	plan   *Plan
 	reader lines.Reader
 	room   []byte
 }
 
-// Parser is a new one.
+// Parser returns a new Parser.
 func (p *Plan) Parser() *Parser { return &Parser{plan: p} }
 
-// Row reads a record. The row is good as long as the record is.
+// Row reads a record. The row is valid as long as the record is.
 func (p *Parser) Row(record *Record, row *Row) {
 	*row = Row{Record: record, cells: row.cells[:0]}
 	switch {
@@ -63,7 +63,7 @@ func (p *Parser) Row(record *Record, row *Row) {
 	}
 }
 
-// fault notes a fault at a byte of a row.
+// faultAt notes a fault at a byte of a row.
 func (r *Row) faultAt(offset int, name, reason string) {
 	line, column := r.Line, r.Column
 	for _, c := range r.Text[:offset] {
@@ -129,7 +129,7 @@ func counted(row *Row, separator byte) string {
 	return fmt.Sprintf("%d cells", len(found))
 }
 
-// object adds the object of a node, and says whether it has a member.
+// object adds a node's object, and reports whether it has a member.
 func (p *Parser) object(n *node, row *Row, to []byte) ([]byte, bool) {
 	start := len(to)
 	to = append(to, '{')
@@ -155,7 +155,7 @@ func (p *Parser) object(n *node, row *Row, to []byte) ([]byte, bool) {
 	return append(to, '}'), true
 }
 
-// value adds the value of a cell, and says whether there is one.
+// value adds a cell's value, and reports whether there is one.
 func (p *Parser) value(at int, row *Row, to []byte) ([]byte, bool) {
 	it, column := row.cells[at], &p.plan.columns[at]
 	if it.start == it.end || row.fault != nil {
@@ -218,8 +218,8 @@ func (p *Parser) jsonRow(row *Row) {
 	row.Inputs = plain(row.Text, object.Members)
 }
 
-// requestIn finds the service and the inputs of a line that is a request: it has no other members but a client, a result, and
-// those with marks.
+// requestIn finds the service and the inputs of a line that is a request: besides these it may only have a client, a result,
+// and members with marks.
 func requestIn(text []byte, members []lines.Member) (service, inputs lines.Span, is bool) {
 	for _, member := range members {
 		switch member.Key {
@@ -237,7 +237,7 @@ func requestIn(text []byte, members []lines.Member) (service, inputs lines.Span,
 	return service, inputs, service.End > 0 && inputs.End > 0 && text[service.Start] == '"' && text[inputs.Start] == '{'
 }
 
-// isOther says whether a line of serve is a model, a close or a resize.
+// isOther reports whether a line of serve is a model, a close or a resize.
 func isOther(members []lines.Member) bool {
 	keys := map[string]bool{}
 	for _, member := range members {
@@ -279,7 +279,7 @@ func (p *Parser) known(row *Row, members []lines.Member, offset int) {
 	}
 }
 
-// marked reads what is due.
+// marked reads the expected values.
 func (p *Parser) marked(row *Row, members []lines.Member) {
 	for _, member := range members {
 		if member.Key == "result" && row.Service != "" {
@@ -302,7 +302,7 @@ func (p *Parser) marked(row *Row, members []lines.Member) {
 	}
 }
 
-// plain is an object without the members that have marks.
+// plain returns an object without the members that have marks.
 func plain(text []byte, members []lines.Member) []byte {
 	isPlain := true
 	for _, member := range members {
@@ -325,10 +325,10 @@ func plain(text []byte, members []lines.Member) []byte {
 	return append(made, '}')
 }
 
-// rulesOf are the rules that decided, by the decision and the entry that has the table: of what `desk explain` tells.
-func rulesOf(told json.RawMessage) map[string][]int {
+// rulesOf returns the deciding rules of an explanation, by the decision and the entry that has the table.
+func rulesOf(explanation json.RawMessage) map[string][]int {
 	var decisions []explained
-	if json.Unmarshal(told, &decisions) != nil {
+	if json.Unmarshal(explanation, &decisions) != nil {
 		return nil
 	}
 	rules := map[string][]int{}
@@ -338,7 +338,7 @@ func rulesOf(told json.RawMessage) map[string][]int {
 	return rules
 }
 
-// An explained is a part of what is told of a decision.
+// An explained is a part of a decision's explanation.
 type explained struct {
 	Name  string
 	Table *struct {

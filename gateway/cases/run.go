@@ -17,33 +17,33 @@ import (
 	"gateway/service"
 )
 
-// An Asker asks engines what the rows of a file ask.
+// An Asker asks engines about the rows of a file.
 type Asker struct {
-	// Path is the engine's file, and Memory the limit of its address space in bytes; 0 is none.
+	// Path is the engine's file, Memory the limit of its address space in bytes; 0 means none.
 	Path   string
 	Memory uint64
-	// Processes is how many engines there are.
+	// Processes is the number of engines.
 	Processes int
-	// Deadline is how long an engine may be at one row.
+	// Deadline limits an engine's time for one row.
 	Deadline time.Duration
-	// Explain says that the rules that decided are asked for.
+	// Explain asks for the deciding rules.
 	Explain bool
-	// Wants picks rows of which the rules that decided are asked for after their answer came; nil picks none.
+	// Wants selects rows whose deciding rules are requested after their answer; nil selects none.
 	Wants func(*Row, *Answer) bool
-	// Tells says that it is told of each answer how it came about.
+	// Tells asks for explanations of answers.
 	Tells bool
-	// Counts are added to, where they are not nil: what each rule of each table did.
+	// Counts, unless nil, gets the counts of each table's rules.
 	Counts *coverage.Counts
-	// Misses says that it is counted too where each rule missed.
+	// Misses means that it also counts where each rule missed.
 	Misses bool
-	// Log is told where an engine ended.
+	// Log is called when an engine ends.
 	Log func(form string, words ...any)
 }
 
-// isExplained says whether all rows are asked with how their answers come about.
+// isExplained reports whether all rows are asked with explanations.
 func (a *Asker) isExplained() bool { return a.Explain || a.Tells || a.Counts != nil }
 
-// A task is a batch on its way.
+// A task is a batch in progress.
 type task struct {
 	batch   Batch
 	rows    []Row
@@ -55,10 +55,10 @@ type task struct {
 	done    chan error
 }
 
-// patience is how long a row may wait for an engine. The file is read no faster than the engines are.
+// patience is how long a row may wait for an engine. The file is read no faster than the engines answer.
 const patience = time.Hour
 
-// Each asks for each row of a file, and hands them to take in their order. The error of take ends the reading.
+// Each asks about each row of a file, and calls take in row order. An error of take ends the reading.
 func (a *Asker) Each(ctx context.Context, plan *Plan, asked *service.Asked, take func(*Row, *Answer) error) (err error) {
 	within, stop := context.WithCancel(ctx)
 	defer stop()
@@ -102,25 +102,25 @@ type run struct {
 	asked *service.Asked
 	pool  *engine.Pool
 	ctx   context.Context
-	// todo has batches to be asked, order all that were read, free those that may be filled again.
+	// todo has batches to ask, order all that were read, free those to refill.
 	todo, order, free chan *task
 	fault             error
 	// counting guards the counts.
 	counting sync.Mutex
-	// out is how many batches are on their way, and taken is sent to when one is over. rowBytes is how much each row of a batch held,
-	// on average, of the batch that held most; 0 before the first.
+	// out is the number of batches in progress; taken is sent to when one is finished. rowBytes is the most that a batch's rows
+	// have held on average; 0 before the first.
 	out, rowBytes atomic.Int64
 	taken         chan struct{}
 }
 
 const (
-	// mostHeld is about how many bytes of rows and results are held, and firstRows the rows of a batch before anything is known of
-	// the results.
+	// mostHeld is about the most bytes held in rows and results, firstRows a batch's rows before anything is known about the
+	// results.
 	mostHeld  = 32 << 20
 	firstRows = 16
 )
 
-// rows is how many rows the next batch has at most.
+// rows returns the most rows in the next batch.
 func (r *run) rows() int {
 	most, size := int64(batchRows), r.rowBytes.Load()
 	if r.asker.isExplained() {
@@ -137,8 +137,8 @@ func (r *run) rows() int {
 	return int(most)
 }
 
-// mayRead waits until another batch may be read; it may not where the context ended. Before anything is known of the results few
-// are on their way.
+// mayRead waits until another batch may be read; false if the context ended. Until something is known about the results, few
+// are in progress.
 func (r *run) mayRead() bool {
 	for {
 		most := int64(cap(r.order))
@@ -172,7 +172,7 @@ func (r *run) over(j *task) {
 	}
 }
 
-// read reads batches until the end, or until the context ends.
+// read reads batches until the file or the context ends.
 func (r *run) read() {
 	defer close(r.order)
 	defer close(r.todo)
@@ -219,7 +219,7 @@ func (r *run) work() {
 	}
 }
 
-// prepare makes a request of each row.
+// prepare makes a request for each row.
 func (j *task) prepare(r *run, parser *Parser) {
 	count := len(j.batch.Records)
 	if cap(j.rows) < count {
@@ -257,7 +257,7 @@ func (r *run) service(row *Row) string {
 	return r.plan.question.Service
 }
 
-// refuse notes why the service takes no such request.
+// refuse notes why the service refuses a request.
 func (p *Parser) refuse(row *Row, refused *service.Refusal) {
 	name := strings.ReplaceAll(strings.TrimPrefix(refused.Pointer, "/"), "/", ".")
 	for at := range row.cells {
@@ -272,7 +272,7 @@ func (p *Parser) refuse(row *Row, refused *service.Refusal) {
 	}
 }
 
-// settle notes what became of a row, and says so when it was the last of its batch.
+// settle notes a row's outcome, and reports the batch when it was its last.
 func (j *task) settle(r *run) func(*engine.Job, engine.Outcome) {
 	return func(of *engine.Job, outcome engine.Outcome) {
 		r.note(j, of.Place, outcome)
@@ -294,7 +294,7 @@ func (r *run) note(j *task, at int, outcome engine.Outcome) {
 	answer.Result = r.asked.Result(r.service(&j.rows[at]), outcome.Value)
 }
 
-// explain asks for the rows of a batch with the rules that decide.
+// explain asks about a batch's rows with the deciding rules.
 func (r *run) explain(explainer *engine.Explainer, j *task) error {
 	at := 0
 	return explainer.Each(r.ctx, r.asked.Model(), j.asked, func(line []byte, cut bool) error {
@@ -307,21 +307,21 @@ func (r *run) explain(explainer *engine.Explainer, j *task) error {
 			r.note(j, place, engine.Outcome{Kind: engine.Huge})
 			return nil
 		}
-		return r.told(j, place, line)
+		return r.reported(j, place, line)
 	})
 }
 
-// told notes what a line of `desk explain` says of a row.
-func (r *run) told(j *task, at int, line []byte) error {
-	told, err := r.counted(line)
+// reported notes what a line of `desk explain` says about a row.
+func (r *run) reported(j *task, at int, line []byte) error {
+	reported, err := r.counted(line)
 	if err != nil {
 		return fmt.Errorf("reading an explanation: %w", err)
 	}
-	outcome := engine.Outcome{Value: append([]byte(nil), told.Result...)}
+	outcome := engine.Outcome{Value: append([]byte(nil), reported.Result...)}
 	switch {
-	case told.Refused != "":
-		outcome = engine.Outcome{Kind: engine.Refused, Word: told.Refused}
-	case told.Fault != "":
+	case reported.Refused != "":
+		outcome = engine.Outcome{Kind: engine.Refused, Word: reported.Refused}
+	case reported.Fault != "":
 		outcome = engine.Outcome{Kind: engine.Limit}
 	}
 	r.note(j, at, outcome)
@@ -338,7 +338,7 @@ func (r *run) told(j *task, at int, line []byte) error {
 	return nil
 }
 
-// explained keeps what a line tells of a row, with the names and values of the file.
+// explained keeps what a line says about a row, with the file's names and values.
 func (r *run) explained(row *Row, answer *Answer, line []byte) error {
 	var it struct{ Decisions json.RawMessage }
 	if err := json.Unmarshal(line, &it); err != nil {
@@ -368,7 +368,7 @@ func (r *run) counted(line []byte) (coverage.Answer, error) {
 	return r.asker.Counts.Add(line)
 }
 
-// explainSome asks for the rules that decided some rows.
+// explainSome asks for the deciding rules of some rows.
 func (r *run) explainSome(j *task) error {
 	var asked []*engine.Job
 	for _, of := range j.asked {
@@ -380,17 +380,17 @@ func (r *run) explainSome(j *task) error {
 		return nil
 	}
 	explainer := &engine.Explainer{Path: r.asker.Path, Memory: r.asker.Memory}
-	told, err := explainer.Explain(r.ctx, r.asked.Model(), asked, func(int) bool { return true })
+	reported, err := explainer.Explain(r.ctx, r.asked.Model(), asked, func(int) bool { return true })
 	if err != nil {
 		return err
 	}
 	for at, of := range asked {
-		j.answers[of.Place].Rules = rulesOf(r.asked.Explained(told[at].Decisions))
+		j.answers[of.Place].Rules = rulesOf(r.asked.Explained(reported[at].Decisions))
 	}
 	return nil
 }
 
-// takeAll hands the rows on in their order.
+// takeAll passes the rows on in order.
 func (r *run) takeAll(take func(*Row, *Answer) error) error {
 	for j := range r.order {
 		if err := <-j.done; err != nil {

@@ -52,7 +52,7 @@ func asking(t *testing.T, text string) (*Asker, *Plan, *service.Asked) {
 	return &Asker{Path: path, Processes: 3, Deadline: time.Minute, Log: t.Logf}, plan, asked
 }
 
-// manyRows are rows of which some are refused.
+// manyRows returns rows, some of which are refused.
 func manyRows(count int) string {
 	var text strings.Builder
 	text.WriteString("a,=d\n")
@@ -65,7 +65,7 @@ func manyRows(count int) string {
 	return text.String()
 }
 
-// TestEach takes rows in their order, however they are asked.
+// TestEach takes rows in order, however they are asked.
 func TestEach(t *testing.T) {
 	for _, isExplained := range []bool{false, true} {
 		asker, plan, asked := asking(t, manyRows(1500))
@@ -97,7 +97,7 @@ func TestEach(t *testing.T) {
 
 var errEnough = errors.New("enough")
 
-// TestEachStops ends in the middle of a file: by an error, and by the end of its context.
+// TestEachStops stops in the middle of a file: by an error, and by the end of its context.
 func TestEachStops(t *testing.T) {
 	asker, plan, asked := asking(t, manyRows(15_000))
 	count := 0
@@ -125,7 +125,7 @@ func TestEachStops(t *testing.T) {
 	}
 }
 
-// TestCounts counts the rules, and asks for those of rows that fail.
+// TestCounts counts the rules, and asks for those of failed rows.
 func TestCounts(t *testing.T) {
 	asker, plan, asked := asking(t, manyRows(200))
 	asker.Counts = coverage.New()

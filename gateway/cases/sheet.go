@@ -7,17 +7,17 @@ import (
 	"strings"
 )
 
-// truths has what spreadsheets write for true and false, in some languages. Of a cell whose type isn't known they are read in
-// capitals alone, but for true and false.
+// truths maps what spreadsheets write for true and false, in some languages. In cells of unknown type only capitals count,
+// except for true and false.
 var truths = map[string]string{
 	"TRUE": "true", "WAHR": "true", "VRAI": "true", "VERO": "true", "VERDADERO": "true", "VERDADEIRO": "true", "WAAR": "true",
 	"FALSE": "false", "FALSCH": "false", "FAUX": "false", "FALSO": "false", "ONWAAR": "false",
 }
 
-// mostTruth is how long the longest of them is.
+// mostTruth is the length of the longest.
 const mostTruth = len("VERDADEIRO")
 
-// truthOf is true or false where a cell has it, else empty.
+// truthOf returns true or false if a cell has it, else "".
 func truthOf(text []byte, isTyped bool) string {
 	if len(text) < len("true") || len(text) > mostTruth {
 		return ""
@@ -30,8 +30,8 @@ func truthOf(text []byte, isTyped bool) string {
 	return ""
 }
 
-// isSheetFault says whether a cell has what a spreadsheet writes where a formula has no value, or a column no room: #N/A, #WERT!,
-// Err:510, ###.
+// isSheetFault reports whether a cell has what a spreadsheet writes for a formula without a value, or a column without room:
+// #N/A, #WERT!, Err:510, ###.
 func isSheetFault(text []byte) bool {
 	if len(text) < 3 {
 		return false
@@ -44,9 +44,9 @@ func isSheetFault(text []byte) bool {
 
 var (
 	sheetFault = regexp.MustCompile(`^(#\S*[!?]|#N/[A-Z]|#NV|Err:\d{3})$`)
-	// shortened is a number with an exponent, as spreadsheets write it: they keep 15 digits.
+	// shortened is a number with an exponent in spreadsheets' form: they keep 15 digits.
 	shortened = regexp.MustCompile(`^[+-]?\d+([.,]\d+)?E[+-]\d+$`)
-	// dated is a date with points, as 29.11.2026, or one of ISO 8601; a time may follow.
+	// dated is a date with points, such as 29.11.2026, or one of ISO 8601; a time may follow.
 	dated = regexp.MustCompile(`^(?:(\d{1,2})\.(\d{1,2})\.(\d{4})|(\d{4})-(\d\d)-(\d\d))(?:[ T](\d{1,2}):(\d\d)(:\d\d(?:\.\d+)?)?(Z|[+-]\d\d:\d\d)?)?$`)
 )
 
@@ -54,7 +54,7 @@ func isShortened(text []byte) bool {
 	return bytes.IndexByte(text, 'E') > 0 && shortened.Match(text)
 }
 
-// isoDate is a date as ISO 8601 has it. What is none stays as it is.
+// isoDate returns a date in ISO 8601, and other texts unchanged.
 func isoDate(text []byte) []byte {
 	parts := dated.FindSubmatch(text)
 	if parts == nil {

@@ -11,19 +11,19 @@ import (
 	"gateway/service"
 )
 
-// A Subject is a model with the names by which files call its parts: those of its file, or its words.
+// A Subject is a model with the names that files use for its parts: those of its file, or its words.
 type Subject struct {
 	source *service.Source
 	form   modelForm
-	// inputs and decisions have the word for each name and each word; places has the place of each decision.
+	// inputs and decisions map names and words to words; places has each decision's index.
 	inputs, decisions map[string]string
 	places            map[string]int
-	// parsed is the model with its logic, and written has the tables of its file by their pointers; nil where they weren't asked for.
+	// parsed is the model with its logic, written has its file's tables by pointer; nil until needed.
 	parsed  *model.Model
 	written map[string]*model.Table
 }
 
-// A modelForm is what matters here of a model. That the model is valid is for the engine to say.
+// A modelForm is the part of a model used here. Whether the model is valid is up to the engine.
 type modelForm struct {
 	Inputs    []string
 	Decisions []struct {
@@ -37,7 +37,7 @@ type modelForm struct {
 	}
 }
 
-// NewSubject reads the names of a model.
+// NewSubject reads a model's names.
 func NewSubject(source *service.Source) (*Subject, error) {
 	s := &Subject{source: source, inputs: map[string]string{}, decisions: map[string]string{}, places: map[string]int{}}
 	if err := json.Unmarshal(source.Text, &s.form); err != nil {
@@ -53,7 +53,7 @@ func NewSubject(source *service.Source) (*Subject, error) {
 	return s, nil
 }
 
-// Name is the name in the file of a word.
+// Name returns a word's name in the file.
 func (s *Subject) Name(word string) string {
 	if name, is := s.source.Names[word]; is {
 		return name
@@ -61,19 +61,19 @@ func (s *Subject) Name(word string) string {
 	return word
 }
 
-// Decision is the word of the decision with a name or a word.
+// Decision returns the word of the decision with a name or word.
 func (s *Subject) Decision(name string) (word string, is bool) {
 	word, is = s.decisions[canonical(name)]
 	return word, is
 }
 
-// IsInput says whether a name or a word is that of an input.
+// IsInput reports whether a name or word is an input's.
 func (s *Subject) IsInput(name string) bool {
 	_, is := s.inputs[canonical(name)]
 	return is
 }
 
-// Decisions are the words of all decisions, in the model's order.
+// Decisions returns the words of all decisions, in model order.
 func (s *Subject) Decisions() (words []string) {
 	for _, decision := range s.form.Decisions {
 		words = append(words, decision.Name)
@@ -81,7 +81,7 @@ func (s *Subject) Decisions() (words []string) {
 	return words
 }
 
-// NameOf is the name in the file of the table with some borders.
+// NameOf returns the name of the table of some borders.
 func (s *Subject) NameOf(b *Borders) string {
 	words := strings.Split(b.Name, ".")
 	for at := range words {
@@ -90,7 +90,7 @@ func (s *Subject) NameOf(b *Borders) string {
 	return strings.Join(words, ".")
 }
 
-// service is the place of the service with a name or a word, or -1.
+// service returns the index of the service with a name or word, or -1.
 func (s *Subject) service(name string) int {
 	for at, it := range s.form.Services {
 		if it.Name == name || canonical(s.Name(it.Name)) == canonical(name) {
@@ -100,8 +100,8 @@ func (s *Subject) service(name string) int {
 	return -1
 }
 
-// Outputs are the decisions that a service or a decision of this name answers. Without a name they are those of the only service,
-// and where there are several, all decisions that no other needs.
+// Outputs returns the decisions answered by the service or decision with this name. Without a name they are those of the only
+// service, or with several services all decisions that no other needs.
 func (s *Subject) Outputs(name string) ([]string, error) {
 	if name == "" && len(s.form.Services) == 1 {
 		return s.form.Services[0].Outputs, nil
@@ -122,7 +122,7 @@ func (s *Subject) Outputs(name string) ([]string, error) {
 	return nil, fmt.Errorf("%w: no service and no decision is called %q%s", ErrForm, name, meant(name, append(names, s.decisionNames()...)))
 }
 
-// answers says whether a service answers a decision; of one that isn't known it says so too, for the refusal of its request.
+// answers reports whether a service answers a decision. It is true for an unknown service, so that the request is refused.
 func (s *Subject) answers(service, word string) bool {
 	at := s.service(service)
 	if at < 0 {
@@ -136,7 +136,7 @@ func (s *Subject) answers(service, word string) bool {
 	return false
 }
 
-// last are the decisions that no other needs, in the model's order.
+// last returns the decisions that no other needs, in model order.
 func (s *Subject) last() (words []string) {
 	isNeeded := map[string]bool{}
 	for _, decision := range s.form.Decisions {
@@ -166,8 +166,8 @@ func (s *Subject) inputNames() (names []string) {
 	return names
 }
 
-// Asking is the model with one more service, whose outputs are these decisions, and the word of that service: requests bring the
-// values of the given decisions that it needs. The services that the model has stay where there is room for them.
+// Asking returns the model with one more service with these outputs, and that service's word. Requests bring the values of the
+// given decisions that it needs. The model's services stay if there is room for them.
 func (s *Subject) Asking(outputs, given []string) (*service.Source, string, error) {
 	tree, err := lines.Tree(s.source.Text)
 	model, is := tree.(map[string]any)
@@ -186,7 +186,7 @@ func (s *Subject) Asking(outputs, given []string) (*service.Source, string, erro
 	return &source, word, nil
 }
 
-// ownService is a service that answers decisions, with all that they need.
+// ownService returns a service that answers decisions, with all their needs.
 func (s *Subject) ownService(outputs, given []string) (own map[string]any, word string) {
 	word = "asked"
 	for s.decisions[word] != "" || s.inputs[word] != "" || s.service(word) >= 0 {
@@ -220,7 +220,7 @@ func (s *Subject) ownService(outputs, given []string) (own map[string]any, word 
 	return map[string]any{"name": word, "outputs": all, "encapsulated": encapsulated, "inputDecisions": decisions, "inputData": inputs}, word
 }
 
-// members are the names of the members of a decision's result: the columns of a table with several of which one rule decides.
+// members returns the names of a decision's members: the columns of a table with several, if one rule decides.
 func (s *Subject) members(word string) (names []string) {
 	var expr struct {
 		Table struct {
@@ -240,7 +240,7 @@ func (s *Subject) members(word string) (names []string) {
 	return names
 }
 
-// partName is the name in the file of a word of a part.
+// partName returns a part's name in the file.
 func (s *Subject) partName(word string) string {
 	if name, is := s.source.Locals[word]; is {
 		return name
@@ -248,7 +248,7 @@ func (s *Subject) partName(word string) string {
 	return s.Name(word)
 }
 
-// meant suggests the name that is nearest to one that is not known.
+// meant suggests the name nearest to an unknown one.
 func meant(name string, names []string) string {
 	if best := near.To(name, names); best != "" {
 		return fmt.Sprintf("; did you mean %q?", best)

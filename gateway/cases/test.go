@@ -14,7 +14,7 @@ import (
 	"gateway/service"
 )
 
-// Dues are the words of the decisions of which the rows of a file say what is due. Of JSON it reads all rows.
+// Dues returns the words of the decisions with expected values in a file's rows. For JSON it reads all rows.
 func (f *File) Dues(s *Subject) (words []string, err error) {
 	isSeen := map[string]bool{}
 	add := func(name string) {
@@ -49,7 +49,7 @@ func (f *File) Dues(s *Subject) (words []string, err error) {
 	}
 }
 
-// Given are the words of the decisions whose values the columns of a CSV file bring.
+// Given returns the words of the decisions whose values a CSV file's columns bring.
 func (f *File) Given(s *Subject) (words []string) {
 	for _, name := range f.Header {
 		if _, is := s.inputs[name]; is || name == "" || isMarked(name) {
@@ -62,7 +62,7 @@ func (f *File) Given(s *Subject) (words []string) {
 	return words
 }
 
-// Came is what came of a value that is due, in JSON; nil where nothing came.
+// Came returns the actual value for an expected one, as JSON, or nil.
 func (p *Plan) Came(due *Due, row *Row, answer *Answer) []byte {
 	if answer.Result == nil || due.Decision == "" {
 		return answer.Result
@@ -82,11 +82,11 @@ func (p *Plan) Came(due *Due, row *Row, answer *Answer) []byte {
 	return lines.Compact(nil, within(tree, due.Path))
 }
 
-// IsOfSeveral says whether a row asks for several decisions at once.
+// IsOfSeveral reports whether a row asks for several decisions at once.
 func (p *Plan) IsOfSeveral() bool { return len(p.question.Outputs) > 1 }
 
-// IsDue says whether what came is what is due. Numbers are the same by their values; a cell of CSV whose type is not known is
-// also the text that it is.
+// IsDue reports whether the actual value is the expected one. Numbers are compared by value; a CSV cell of unknown type also
+// matches its text.
 func (p *Plan) IsDue(d *Due, came []byte) bool {
 	if came == nil {
 		return false
@@ -102,7 +102,7 @@ func (p *Plan) IsDue(d *Due, came []byte) bool {
 	return err == nil && same(lines.Renamed(wanted, p.question.subject.source.Names), got)
 }
 
-// same says whether two values are equal.
+// same reports whether two values are equal.
 func same(one, other any) bool {
 	switch one := one.(type) {
 	case json.Number:
@@ -134,7 +134,7 @@ func same(one, other any) bool {
 	return one == other
 }
 
-// mostDigits is how long numbers are that are compared by their values: an exponent makes a short text a number without end.
+// mostDigits limits the length of numbers that are compared by value: with an exponent a short text can be a huge number.
 const mostDigits = 100
 
 func sameNumbers(one, other json.Number) bool {
@@ -158,13 +158,13 @@ func hasExponent(number json.Number) bool {
 	return false
 }
 
-// A Single asks for one decision at a time, where a row that asks for several has no result because of a limit.
+// A Single asks for one decision at a time, if a row that asks for several has no result because of a limit.
 type Single struct {
 	Asker   *Asker
 	Subject *Subject
 	// Given are the decisions whose values the rows bring.
 	Given []string
-	// asked has the model of each decision.
+	// asked has the model for each decision.
 	asked map[string]single
 }
 
@@ -173,7 +173,7 @@ type single struct {
 	asked    *service.Asked
 }
 
-// Came asks for the decision of a value that is due, and gives what came of it.
+// Came asks for the decision of an expected value, and returns the actual one.
 func (o *Single) Came(ctx context.Context, row *Row, due *Due) ([]byte, Answer, error) {
 	it, err := o.single(ctx, due.Decision)
 	if err != nil {
@@ -186,18 +186,18 @@ func (o *Single) Came(ctx context.Context, row *Row, due *Due) ([]byte, Answer, 
 	ctx, stop := context.WithTimeout(ctx, o.Asker.Deadline+time.Minute)
 	defer stop()
 	explainer := &engine.Explainer{Path: o.Asker.Path, Memory: o.Asker.Memory}
-	told, err := explainer.Explain(ctx, it.asked.Model(), []*engine.Job{job}, func(int) bool { return true })
+	explanations, err := explainer.Explain(ctx, it.asked.Model(), []*engine.Job{job}, func(int) bool { return true })
 	if err != nil {
 		return nil, Answer{}, fmt.Errorf("asking for %s: %w", o.Subject.Name(due.Decision), err)
 	}
 	r := run{asked: it.asked, plan: &Plan{question: it.question}}
 	one := &task{rows: []Row{{Record: row.Record}}, answers: make([]Answer, 1)}
-	r.note(one, 0, told[0].Outcome)
-	one.answers[0].Rules = rulesOf(it.asked.Explained(told[0].Decisions))
+	r.note(one, 0, explanations[0].Outcome)
+	one.answers[0].Rules = rulesOf(it.asked.Explained(explanations[0].Decisions))
 	return r.plan.Came(due, &one.rows[0], &one.answers[0]), one.answers[0], nil
 }
 
-// single is the model that answers one decision.
+// single returns the model that answers one decision.
 func (o *Single) single(ctx context.Context, decision string) (it single, err error) {
 	if it, is := o.asked[decision]; is {
 		return it, nil

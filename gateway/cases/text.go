@@ -13,11 +13,11 @@ import (
 // bufferSize is how much is read at once.
 const bufferSize = 256 << 10
 
-// byteOrderMark is that of UTF-8.
+// byteOrderMark is UTF-8's.
 var byteOrderMark = []byte("\xef\xbb\xbf")
 
-// decoded is a stream as UTF-8 without a byte order mark. UTF-16 is known by its mark, or by a zero beside the first byte. A stream
-// that is neither this nor has the mark of UTF-8 is Windows-1252 if isANSI.
+// decoded returns a stream as UTF-8 without a byte order mark. UTF-16 is recognized by its mark, or by a zero next to the first
+// byte. A stream without these and without UTF-8's mark is Windows-1252 if isANSI.
 func decoded(from io.Reader, isANSI bool) *bufio.Reader {
 	buffered := bufio.NewReaderSize(from, bufferSize)
 	begin, _ := buffered.Peek(3)
@@ -40,7 +40,7 @@ func decoded(from io.Reader, isANSI bool) *bufio.Reader {
 	return buffered
 }
 
-// ansiLetters are the characters from 0x80 to 0x9f of Windows-1252; a blank is none.
+// ansiLetters are the characters of Windows-1252 from 0x80 to 0x9f; a blank means none.
 var ansiLetters = []rune("€ ‚ƒ„…†‡ˆ‰Š‹Œ Ž  ‘’“”•–—˜™š›œ žŸ")
 
 // An ansiReader reads Windows-1252 as UTF-8.
@@ -70,19 +70,19 @@ func fromUTF16(from *bufio.Reader, order binary.ByteOrder) *bufio.Reader {
 	return bufio.NewReaderSize(&utf16Reader{from: from, order: order}, bufferSize)
 }
 
-// noText is a byte that is no UTF-8. It takes the place of what is no UTF-16, so that this is refused where it is.
+// noText is not valid UTF-8. It replaces invalid UTF-16, so that this is refused at its place.
 const noText = 0xff
 
 // A utf16Reader reads UTF-16 as UTF-8.
 type utf16Reader struct {
 	from  *bufio.Reader
 	order binary.ByteOrder
-	// high is a first half of a surrogate pair that was read, or 0.
+	// high is the first half of a surrogate pair, or 0.
 	high rune
 	err  error
 }
 
-// mostBytes is the most bytes that one unit adds: of a half that has no other, and a character.
+// mostBytes is the most bytes that one unit adds: for a half without another, and a character.
 const mostBytes = 1 + utf8.UTFMax
 
 func (r *utf16Reader) Read(to []byte) (n int, _ error) {
@@ -107,7 +107,7 @@ func (r *utf16Reader) Read(to []byte) (n int, _ error) {
 	return 0, r.err
 }
 
-// add adds what a unit makes.
+// add adds the characters of a unit.
 func (r *utf16Reader) add(to []byte, unit rune) []byte {
 	high := r.high
 	r.high = 0
@@ -128,19 +128,19 @@ func (r *utf16Reader) add(to []byte, unit rune) []byte {
 	return to
 }
 
-// A lineReader cuts a stream into lines.
+// A lineReader splits a stream into lines.
 type lineReader struct {
 	from *bufio.Reader
-	// back is what is read before the stream.
+	// back is read before the stream.
 	back       []byte
 	isBackLong bool
-	// number is that of the line that was read last.
+	// number is that of the last line read.
 	number int
-	// read is how many bytes were read.
+	// read is the number of bytes read.
 	read int64
 }
 
-// next adds the next line to a text, with its line end. Of a line over MaxRow bytes it adds the first, and isLong says so.
+// next adds the next line to a text, with its line end. Of a line over MaxRow bytes it adds the beginning, and isLong is true.
 func (r *lineReader) next(to []byte) (_ []byte, isLong bool, err error) {
 	if len(r.back) == 0 {
 		return r.fromStream(to)
@@ -154,7 +154,7 @@ func (r *lineReader) next(to []byte) (_ []byte, isLong bool, err error) {
 	return append(to, line...), r.isBackLong && len(r.back) == 0, nil
 }
 
-// putBack gives back lines that were read last. Of the last one more than that was read if isLong.
+// putBack puts back the last lines read. If isLong, more of the last one was skipped.
 func (r *lineReader) putBack(text []byte, isLong bool) {
 	r.number -= bytes.Count(text, []byte("\n"))
 	if text[len(text)-1] != '\n' {
@@ -181,7 +181,7 @@ func (r *lineReader) fromStream(to []byte) (_ []byte, isLong bool, err error) {
 	}
 }
 
-// withoutEnd is a line without its line end.
+// withoutEnd returns a line without its line end.
 func withoutEnd(line []byte) []byte {
 	line = bytes.TrimSuffix(line, []byte("\n"))
 	return bytes.TrimSuffix(line, []byte("\r"))

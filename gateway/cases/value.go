@@ -9,16 +9,16 @@ import (
 	"gateway/lines"
 )
 
-// A kind is what a type allows, as far as it matters for the reading of a cell.
+// A kind is what a type allows, as far as it matters for reading a cell.
 type kind struct {
 	isText, isNumber, isTruth, isOther bool
-	// format is that of a text, as JSON Schema has it: date, date-time.
+	// format is a text's format in JSON Schema: date, date-time.
 	format string
-	// properties has those of an object, by their words.
+	// properties has an object's properties, by word.
 	properties map[string]json.RawMessage
 }
 
-// kindOf is the kind of a JSON Schema; of none it is no kind.
+// kindOf returns the kind of a JSON Schema; without one it is empty.
 func kindOf(schema json.RawMessage) kind {
 	var form struct {
 		Type       any                        `json:"type"`
@@ -48,7 +48,7 @@ func kindOf(schema json.RawMessage) kind {
 	return k
 }
 
-// is says whether a kind allows just these.
+// is reports whether a kind allows exactly these.
 func (k kind) is(other kind) bool {
 	return k.isText == other.isText && k.isNumber == other.isNumber && k.isTruth == other.isTruth && k.isOther == other.isOther
 }
@@ -60,7 +60,7 @@ var (
 	parts  = kind{isOther: true}
 )
 
-// appendValue adds the value of a cell, which isn't empty, as JSON; or says why it has none.
+// appendValue adds the value of a nonempty cell as JSON, or says why it has none.
 func (k kind) appendValue(to, cell []byte, comma bool) ([]byte, string) {
 	if !utf8.Valid(cell) {
 		return to, notUTF8
@@ -92,7 +92,7 @@ func (k kind) appendValue(to, cell []byte, comma bool) ([]byte, string) {
 	return appendAny(to, cell, trimmed, comma)
 }
 
-// appendAny adds the value of a cell whose type is not known: a number, true, false, JSON, or else a text.
+// appendAny adds the value of a cell of unknown type: a number, true, false, JSON, or else a text.
 func appendAny(to, cell, trimmed []byte, comma bool) ([]byte, string) {
 	if len(trimmed) == 0 {
 		return lines.AppendQuoted(to, string(cell)), ""
@@ -122,7 +122,7 @@ func appendAny(to, cell, trimmed []byte, comma bool) ([]byte, string) {
 
 const inQuotes = "; in quotes within the cell it is a text"
 
-// isCode says whether digits begin with a zero, as those of a postal code.
+// isCode reports whether digits begin with a zero, as a postal code may.
 func isCode(text []byte) bool {
 	if len(text) < 2 || text[0] != '0' {
 		return false
@@ -135,7 +135,7 @@ func isCode(text []byte) bool {
 	return true
 }
 
-// isNumeral says whether a text has digits with one point or comma, or groups of three.
+// isNumeral reports whether a text has digits with one point or comma, or groups of three.
 func isNumeral(text []byte) bool {
 	text = bytes.TrimPrefix(text, []byte("-"))
 	pieces := bytes.FieldsFunc(text, func(r rune) bool { return r == '.' || r == ',' })
@@ -153,7 +153,7 @@ func isNumeral(text []byte) bool {
 	return len(pieces) == 2 || groups
 }
 
-// appendText adds a text; one that is JSON's string, in quotes, is what that stands for.
+// appendText adds a text; for a JSON string in quotes, its value.
 func appendText(to, cell []byte) []byte {
 	if cell[0] == '"' {
 		if _, fault := lines.Whole(cell, 0); fault == nil {
@@ -173,7 +173,7 @@ func appendJSON(to, cell []byte) ([]byte, string) {
 	return append(to, lines.OneLine(cell, len(cell))...), ""
 }
 
-// noNumber says that a cell is no number.
+// noNumber says that a cell is not a number.
 func noNumber(cell, trimmed []byte, comma bool) string {
 	switch {
 	case isShortened(trimmed):
@@ -186,7 +186,7 @@ func noNumber(cell, trimmed []byte, comma bool) string {
 	return fmt.Sprintf("%s is not a number: it has a decimal point, and no commas; --comma reads decimal commas", shown(cell))
 }
 
-// appendNumber adds a number as JSON has it: +007,50 with a decimal comma is 7.5.
+// appendNumber adds a number in JSON's form: +007,50 with a decimal comma is 7.5.
 func appendNumber(to, text []byte, comma bool) (_ []byte, ok bool) {
 	point := byte('.')
 	if comma {
@@ -226,7 +226,7 @@ func areDigits(text []byte) bool {
 	return true
 }
 
-// shown is a text as messages show it.
+// shown returns a text as in messages.
 func shown(text []byte) string {
 	return string(lines.AppendQuoted(nil, lines.Brief(bytes.ToValidUTF8(text, []byte("?")), 60)))
 }

@@ -54,7 +54,7 @@ func runTests(ctx context.Context, c *cobra.Command, model string, files []strin
 	return err
 }
 
-// newReports are the reports that the options ask for.
+// newReports returns the requested reports.
 func newReports(c *cobra.Command, o casesOptions) (all reports, err error) {
 	if o.tap {
 		all = append(all, newTAP(c.OutOrStdout()))
@@ -71,7 +71,7 @@ func newReports(c *cobra.Command, o casesOptions) (all reports, err error) {
 	return append(all, &junitReport{to: file}), nil
 }
 
-// runFiles runs each file. A file that can't be read is a fault in the reports too, and ends the run.
+// runFiles runs each file. An unreadable file is a fault in the reports too, and ends the run.
 func runFiles(ctx context.Context, c *cobra.Command, model string, files []string, o casesOptions, to reports) error {
 	for _, file := range files {
 		run := runCaseRows
@@ -85,7 +85,7 @@ func runFiles(ctx context.Context, c *cobra.Command, model string, files []strin
 	return to.end()
 }
 
-// writeBorders writes a file of cases for each table: rows at its borders, with the answers that come.
+// writeBorders writes a cases file for each table: rows at its borders, with the model's answers.
 func writeBorders(ctx context.Context, c *cobra.Command, path string, o casesOptions) error {
 	source, err := o.readModel(c, path)
 	if err != nil {
@@ -119,8 +119,8 @@ func writeBorders(ctx context.Context, c *cobra.Command, path string, o casesOpt
 	return nil
 }
 
-// tellBorders says what the borders of a table leave out.
-func tellBorders(c *cobra.Command, subject *cases.Subject, borders *cases.Borders) {
+// reportBorders reports what the borders of a table leave out.
+func reportBorders(c *cobra.Command, subject *cases.Subject, borders *cases.Borders) {
 	name := subject.NameOf(borders)
 	for _, text := range borders.Calculated {
 		fmt.Fprintf(c.ErrOrStderr(), "%s: the column %q is calculated, and has no borders here\n", name, text)
@@ -133,7 +133,7 @@ func tellBorders(c *cobra.Command, subject *cases.Subject, borders *cases.Border
 // writeTableBorders writes the file of one table.
 func writeTableBorders(ctx context.Context, c *cobra.Command, subject *cases.Subject, borders *cases.Borders, program string,
 	o casesOptions) error {
-	tellBorders(c, subject, borders)
+	reportBorders(c, subject, borders)
 	if len(borders.Rows) == 0 {
 		return nil
 	}
@@ -156,7 +156,7 @@ func writeTableBorders(ctx context.Context, c *cobra.Command, subject *cases.Sub
 	writer := plan.Writer(false)
 	text := writer.Begin(nil)
 	err = o.asker(c, program).Each(ctx, plan, asked, func(row *cases.Row, answer *cases.Answer) error {
-		// A value that the type of its input doesn't allow is no case.
+		// A value outside its input's type is no case.
 		if !answer.IsRefused {
 			text = writer.Row(text, row, answer)
 		}
@@ -168,7 +168,7 @@ func writeTableBorders(ctx context.Context, c *cobra.Command, subject *cases.Sub
 	return os.WriteFile(filepath.Join(o.borders, borders.Name+".csv"), writer.End(text), 0o666)
 }
 
-// isXML reports whether a file of cases is XML: by its name, or where standard input begins as XML does.
+// isXML reports whether a cases file is XML, by its name, or for standard input by its beginning.
 func isXML(c *cobra.Command, file string) bool {
 	if file != dash {
 		extension := strings.ToLower(filepath.Ext(file))
@@ -180,7 +180,7 @@ func isXML(c *cobra.Command, file string) bool {
 	return isDMN(dash, begin)
 }
 
-// countReport counts.
+// countReport only counts.
 type countReport struct{ verdictCounts }
 
 func (r *countReport) add(_ string, v tck.Verdict) error {
@@ -195,17 +195,17 @@ func (r *countReport) fault(string, string, string) error {
 
 func (*countReport) end() error { return nil }
 
-// mostExplained is of how many rows that failed the rules are reported.
+// mostExplained limits the failed rows whose rules are reported.
 const mostExplained = 1000
 
 // A caseRun is the test of one file of rows.
 type caseRun struct {
-	plan   *cases.Plan
-	file   string
-	to     caseReport
-	told   *refusals
-	single cases.Single
-	// explained is how many rows were asked about.
+	plan       *cases.Plan
+	file       string
+	to         caseReport
+	unanswered *refusals
+	single     cases.Single
+	// explained is how many rows were explained.
 	explained int
 }
 
@@ -230,17 +230,17 @@ func runCaseRows(ctx context.Context, c *cobra.Command, model, file string, o ca
 	}
 	asker := o.asker(c, rows.engine)
 	run := &caseRun{plan: plan, file: rows.source.name, to: to, single: cases.Single{Asker: asker, Subject: subject, Given: rows.Given(subject)},
-		told: &refusals{to: c.ErrOrStderr(), file: rows.source.name}}
+		unanswered: &refusals{to: c.ErrOrStderr(), file: rows.source.name}}
 	asker.Wants, asker.Counts, asker.Misses = run.wants, o.counts, o.cells != ""
 	shown := rows.progress(c, "testing", false)
 	defer shown.stop()
 	err = asker.Each(ctx, plan, rows.asked, func(row *cases.Row, answer *cases.Answer) error { return run.take(ctx, row, answer) })
 	shown.stop()
-	run.told.end()
+	run.unanswered.end()
 	return err
 }
 
-// readTwice reads the whole of standard input, so that it can be read twice; of another file it gives how to open it.
+// readTwice reads all of standard input, so that it can be read twice; for other files it returns how to open them.
 func readTwice(c *cobra.Command, file string) (func() (io.ReadCloser, error), error) {
 	if file != dash {
 		return func() (io.ReadCloser, error) { return open(c, file) }, nil
@@ -253,7 +253,7 @@ func readTwice(c *cobra.Command, file string) (func() (io.ReadCloser, error), er
 	return func() (io.ReadCloser, error) { return io.NopCloser(bytes.NewReader(text)), nil }, nil
 }
 
-// dues is the question of a file of cases: all decisions of which a row says what is due.
+// dues returns the question of a cases file: all decisions with an expected value.
 func dues(s *cases.Subject, again func() (io.ReadCloser, error), file string, o *casesOptions) (*cases.Question, error) {
 	from, err := again()
 	if err != nil {
@@ -274,7 +274,7 @@ func dues(s *cases.Subject, again func() (io.ReadCloser, error), file string, o 
 	return s.QuestionOf(words, rows.Given(s))
 }
 
-// isPassed says whether all that is due of a row came.
+// isPassed reports whether everything expected of a row came.
 func (r *caseRun) isPassed(row *cases.Row, answer *cases.Answer) bool {
 	for at := range row.Dues {
 		if !r.plan.IsDue(&row.Dues[at], r.plan.Came(&row.Dues[at], row, answer)) {
@@ -284,7 +284,7 @@ func (r *caseRun) isPassed(row *cases.Row, answer *cases.Answer) bool {
 	return true
 }
 
-// wants asks for the rules of rows that fail.
+// wants asks for the rules of failed rows.
 func (r *caseRun) wants(row *cases.Row, answer *cases.Answer) bool {
 	if r.explained == mostExplained || r.isPassed(row, answer) {
 		return false
@@ -296,7 +296,7 @@ func (r *caseRun) wants(row *cases.Row, answer *cases.Answer) bool {
 // take reports on a row.
 func (r *caseRun) take(ctx context.Context, row *cases.Row, answer *cases.Answer) error {
 	if answer.IsRefused {
-		r.told.add(row, answer)
+		r.unanswered.add(row, answer)
 		place := fmt.Sprint(row.Line)
 		if fault := row.Fault(); fault != nil && fault.Column > 0 {
 			place = fmt.Sprintf("%d:%d", fault.Line, fault.Column)
@@ -323,7 +323,7 @@ func (r *caseRun) take(ctx context.Context, row *cases.Row, answer *cases.Answer
 	return nil
 }
 
-// saidOf says what was due and what came, and the rules that decided.
+// saidOf says what was expected, what came, and which rules decided.
 func saidOf(due *cases.Due, came []byte, answer *cases.Answer) string {
 	text := fmt.Sprintf("due %s, came %s", due.Value, came)
 	if came == nil {

@@ -19,9 +19,9 @@ type casesOptions struct {
 	rowsOptions
 	junit      string
 	tap, quiet bool
-	// coverage is the percentage of rules that is due, as a text; empty where none is asked for.
+	// coverage is the required percentage of rules, as text, or "".
 	coverage string
-	// cells is the same of cells.
+	// cells is the required percentage of cells, or "".
 	cells, borders string
 	record         bool
 	counts         *coverage.Counts
@@ -58,7 +58,7 @@ docs/CASES.md has the forms.`,
 		if err := options.check(); err != nil {
 			return err
 		}
-		ctx, stop := untilTold(c)
+		ctx, stop := untilStopped(c)
 		defer stop()
 		return reported(c.ErrOrStderr(), options.run(ctx, c, words))
 	}
@@ -82,7 +82,7 @@ func (o casesOptions) run(ctx context.Context, c *cobra.Command, words []string)
 	return runTests(ctx, c, words[0], words[1:], o)
 }
 
-// runTCK runs test cases of the TCK, and reports on each result node.
+// runTCK runs TCK test cases, and reports each result node.
 func runTCK(ctx context.Context, c *cobra.Command, path, casesPath string, options casesOptions, to caseReport) error {
 	read, _, err := readFiles(c, []string{path})
 	if err != nil {
@@ -102,7 +102,7 @@ func runTCK(ctx context.Context, c *cobra.Command, path, casesPath string, optio
 	if !namesFit(read[0], cases, o, c.ErrOrStderr()) {
 		return ended(statusRefused)
 	}
-	// Each decision is tested in a model of its own, whose inputs are counted as in that of the whole file.
+	// Each decision is tested in its own model, whose inputs are counted as in that of the whole file.
 	o = profile.Settled(read, o)
 	verdicts, err := verdictsOf(ctx, c, read[0], cases, o)
 	if err != nil {
@@ -136,7 +136,7 @@ func verdictsOf(ctx context.Context, c *cobra.Command, file *dmn.File, cases *tc
 	return tck.Run(ctx, file, cases, func(part *dmn.File) tck.Translation { return translated(part, o) }, &done)
 }
 
-// addVerdicts reports the verdicts on a case; those that failed with the rules that decided.
+// addVerdicts reports a case's verdicts, failed ones with the rules that decided.
 func addVerdicts(to caseReport, path string, verdicts []tck.Verdict, rules string) error {
 	for _, v := range verdicts {
 		if v.Outcome == tck.Fail && rules != "" {
@@ -149,8 +149,8 @@ func addVerdicts(to caseReport, path string, verdicts []tck.Verdict, rules strin
 	return nil
 }
 
-// namesFit says whether the file has each name of the cases; it reports those that it lacks. With a service asked for, it
-// leaves the result nodes that this service answers.
+// namesFit reports whether the file has every name in the cases, and reports missing ones. With a service it keeps only the
+// result nodes that the service answers.
 func namesFit(file *dmn.File, cases *tck.Cases, options profile.Options, faults io.Writer) bool {
 	free, refusals := profile.Check([]*dmn.File{file}, options)
 	for _, refusal := range refusals {
@@ -172,7 +172,7 @@ func namesFit(file *dmn.File, cases *tck.Cases, options profile.Options, faults 
 	return found
 }
 
-// shownVerdict is the line of a verdict, with its outcome in a colour on a terminal.
+// shownVerdict returns a verdict's line, with a coloured outcome on a terminal.
 func shownVerdict(out io.Writer, v tck.Verdict) string {
 	colours := map[tck.Outcome]string{tck.Pass: green, tck.Fail: red, tck.Unsupported: yellow}
 	line, before := v.String(), len(v.Case)+len("/")+len(v.Node)+len(" ")

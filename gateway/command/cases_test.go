@@ -7,7 +7,7 @@ import (
 	"testing"
 )
 
-// tested runs cases over a file, with options.
+// tested runs cases against a file, with options.
 func tested(t *testing.T, options []string, text, cases string) (status int, out, faults string) {
 	t.Helper()
 	path := filepath.Join(t.TempDir(), "cases.xml")
@@ -19,7 +19,7 @@ func tested(t *testing.T, options []string, text, cases string) (status int, out
 	return runs("", append(append([]string{"test"}, options...), file(t, text), path)...)
 }
 
-// testCase is a test case with the number 1 for an input, and a number that is due of a node.
+// testCase returns a test case with input 1, and a number expected of a node.
 func testCase(input, node, due string) string {
 	return `<testCase id="1"><inputNode name="` + input + `"><value xsi:type="xsd:decimal">1</value></inputNode><resultNode name="` +
 		node + `"><expected><value xsi:type="xsd:decimal">` + due + `</value></expected></resultNode></testCase>`
@@ -67,7 +67,7 @@ func TestCasesOfInputsThatNothingDeclares(t *testing.T) {
 	if status != 0 || faults != "" || !strings.HasPrefix(out, "1/d PASS") {
 		t.Errorf("status %d\n%s%s", status, out, faults)
 	}
-	// In a part of the file a name stays that of a decision which isn't required.
+	// In a part of the file a name is still that of a decision which isn't required.
 	other := `<decision id="e" name="b c"><literalExpression><text>1</text></literalExpression></decision></definitions>`
 	status, out, faults = tested(t, []string{"--free-inputs"}, undrawn+other, testCase("b c", "d", "2"))
 	if status != 1 || !strings.Contains(out, "no name in scope") {

@@ -89,7 +89,7 @@ from 1. docs/MODEL.md explains each fault, docs/LINES.md the lines of --json. --
 	return c
 }
 
-// openModel opens the model of the command line: one file in JSON, standard input, or files of DMN, which it imports.
+// openModel opens the command line's model: one JSON file, standard input, or DMN files, which it imports.
 func openModel(c *cobra.Command, files []string, options *tell.CheckOptions) (*source, error) {
 	if len(files) == 0 {
 		files = []string{dash}
@@ -119,7 +119,7 @@ func completeFormats(*cobra.Command, []string, string) (names []string, _ cobra.
 	return names, cobra.ShellCompDirectiveNoFileComp
 }
 
-// setFormat sets the format that the options ask for.
+// setFormat sets the requested format.
 func setFormat(c *cobra.Command, options *tell.CheckOptions, name string, isJSON bool) (err error) {
 	if options.Format, err = tell.FormatOf(name); err != nil {
 		return wrong("--format: %v", err)
@@ -134,8 +134,8 @@ func setFormat(c *cobra.Command, options *tell.CheckOptions, name string, isJSON
 	return nil
 }
 
-// importModel imports files of DMN to a model, and notes in the options where its parts are in the files. What the import finds is
-// reported on standard error, and as notices where the format has them.
+// importModel imports DMN files to a model, and sets the origins in the options. Findings are reported on standard error, and
+// as notices if the format has them.
 func importModel(c *cobra.Command, paths []string, options *tell.CheckOptions) (*source, error) {
 	read, faults, err := readFiles(c, paths)
 	if err != nil {
@@ -157,7 +157,7 @@ func importModel(c *cobra.Command, paths []string, options *tell.CheckOptions) (
 	return &source{Reader: bytes.NewReader(line), name: paths[0]}, nil
 }
 
-// withDomains is the line of an imported model with the domains of its inputs.
+// withDomains returns the line of an imported model with its inputs' domains.
 func withDomains(result *profile.Result) ([]byte, error) {
 	line, err := profile.Line(&result.Model)
 	if err != nil || len(result.Domains) == 0 {
@@ -170,7 +170,7 @@ func withDomains(result *profile.Result) ([]byte, error) {
 	return append(append(append(bytes.TrimSuffix(line, []byte("}")), `,"domains":`...), text...), '}'), nil
 }
 
-// writeRefusals writes the places that an import refuses as notices, where the format has them. It returns the error that ended
+// writeRefusals writes the places that an import refuses as notices, if the format has them. It returns the error that ended
 // the import.
 func writeRefusals(c *cobra.Command, options *tell.CheckOptions, refusals []profile.Refusal, ended error) error {
 	if !options.Format.HasNotices() || len(refusals) == 0 {
@@ -187,7 +187,7 @@ func writeRefusals(c *cobra.Command, options *tell.CheckOptions, refusals []prof
 	return ended
 }
 
-// noticesOf are what an import reports as notices.
+// noticesOf returns an import's reports as notices.
 func noticesOf(refusals []profile.Refusal, kind string, level tell.Level) []tell.Notice {
 	var notices []tell.Notice
 	for _, it := range refusals {

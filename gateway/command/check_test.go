@@ -10,18 +10,18 @@ import (
 	"testing"
 )
 
-// typed is a file with a decision over an input of a type.
+// typed is a file with a decision on a typed input.
 const typed = header + `<itemDefinition name="tAge"><typeRef>number</typeRef><allowedValues><text>[0..120]</text></allowedValues></itemDefinition>` +
 	`<inputData id="i" name="age"><variable name="age" typeRef="tAge"/></inputData><decision id="d" name="d"><informationRequirement id="r">` +
 	`<requiredInput href="#i"/></informationRequirement><literalExpression><text>age</text></literalExpression></decision></definitions>`
 
-// engineThatKeeps is an engine that keeps its words and its input in files, and says that the model is lawful.
+// engineThatKeeps returns an engine that saves its arguments and its input, and reports a valid model.
 func engineThatKeeps(t *testing.T) (words, input string) {
 	t.Helper()
 	folder := t.TempDir()
 	words, input = filepath.Join(folder, "words"), filepath.Join(folder, "input")
-	const lawful = `{"lawful":true,"inputs":["age"],"decisions":[{"name":"d","kind":"expression"}],"services":[{"name":"d","parameters":["age"]}]}`
-	script := fmt.Sprintf("#!/bin/sh\necho \"$*\" > %s\ncat > %s\necho '%s'\n", words, input, lawful)
+	const validLine = `{"lawful":true,"inputs":["age"],"decisions":[{"name":"d","kind":"expression"}],"services":[{"name":"d","parameters":["age"]}]}`
+	script := fmt.Sprintf("#!/bin/sh\necho \"$*\" > %s\ncat > %s\necho '%s'\n", words, input, validLine)
 	path := filepath.Join(folder, "engine")
 	if err := os.WriteFile(path, []byte(script), 0o700); err != nil {
 		t.Fatal(err)
@@ -30,7 +30,7 @@ func engineThatKeeps(t *testing.T) (words, input string) {
 	return words, input
 }
 
-// TestCheckHandsDomainsToTheEngine with the options.
+// TestCheckHandsDomainsToTheEngine checks that the domains reach the engine, with the options.
 func TestCheckHandsDomainsToTheEngine(t *testing.T) {
 	words, input := engineThatKeeps(t)
 	status, out, errs := runs("", "check", "--gives", "--strict-null", file(t, typed))
@@ -53,7 +53,7 @@ func TestCheckHandsDomainsToTheEngine(t *testing.T) {
 	}
 }
 
-// TestImportWritesDomains beside the model, and not in its line.
+// TestImportWritesDomains expects domains next to the model, and not in its line.
 func TestImportWritesDomains(t *testing.T) {
 	path := file(t, typed)
 	for _, it := range []struct {

@@ -1,7 +1,7 @@
-// Package command is the command line of desk: its words, its help, its exit statuses.
+// Package command is the command line of desk: commands, help and exit statuses.
 //
-// replay and serve are handed to the engine as they are, by exec: pipes, signals, status and bytes are the engine's own.
-// check and explain run the engine too, after a file that is named was opened or imported.
+// replay and serve replace the process with the engine: pipes, signals, status and bytes are the engine's own. check and
+// explain run the engine too, after opening or importing a named file.
 package command
 
 import (
@@ -15,7 +15,7 @@ import (
 	"github.com/spf13/pflag"
 )
 
-// Run does what the words of the command line ask for, and returns the exit status.
+// Run runs the command line, and returns the exit status.
 func Run(words []string) int {
 	if isHandedOver(words) {
 		return finish(os.Stderr, "desk", handOver(words))
@@ -24,7 +24,7 @@ func Run(words []string) int {
 	return run(newRoot(), words)
 }
 
-// run does what the words ask for, on the streams of the root.
+// run runs a command line on the root's streams.
 func run(root *cobra.Command, words []string) int {
 	root.SetArgs(words)
 	if err := find(root, words); err != nil {
@@ -49,7 +49,7 @@ func finish(to io.Writer, name string, err error) int {
 	return status
 }
 
-// newRoot is the command desk with all its commands.
+// newRoot returns the desk command with all its commands.
 func newRoot() *cobra.Command {
 	root := &cobra.Command{
 		Use:   "desk COMMAND",
@@ -96,7 +96,7 @@ Licence: MIT or Apache-2.0, as you choose (LICENSE, NOTICE).`,
 	return root
 }
 
-// everyCommand lists the commands, each before those that it has.
+// everyCommand lists the commands, each before its own.
 func everyCommand(of *cobra.Command) (all []*cobra.Command) {
 	for _, c := range of.Commands() {
 		all = append(append(all, c), everyCommand(c)...)
@@ -104,7 +104,7 @@ func everyCommand(of *cobra.Command) (all []*cobra.Command) {
 	return all
 }
 
-// find reports a first word that is no command.
+// find returns an error if the first word is not a command.
 func find(root *cobra.Command, words []string) error {
 	if len(words) == 0 || strings.HasPrefix(words[0], "-") || strings.HasPrefix(words[0], cobra.ShellCompRequestCmd) {
 		return nil
@@ -125,7 +125,7 @@ func unknownCommand(root *cobra.Command, word string) error {
 	return wrong("%q is no command%s", word, tip("", word, names))
 }
 
-// flagError reports an option that is not one of the command's, with the nearest that is.
+// flagError returns the error of an unknown option, with the nearest known one.
 func flagError(c *cobra.Command, err error) error {
 	const unknown = "unknown flag: --"
 	if !strings.HasPrefix(err.Error(), unknown) {
@@ -137,7 +137,7 @@ func flagError(c *cobra.Command, err error) error {
 	return wrong("there is no option --%s%s", word, tip("--", word, names))
 }
 
-// tip suggests the nearest of these names, if one is near.
+// tip suggests the nearest name, if one is near.
 func tip(prefix, word string, names []string) string {
 	index := &cobra.Command{SuggestionsMinimumDistance: 2}
 	for _, name := range names {
@@ -150,7 +150,7 @@ func tip(prefix, word string, names []string) string {
 	return "; did you mean " + prefix + near[0] + "?"
 }
 
-// noFiles refuses words that are no options.
+// noFiles refuses words that aren't options.
 func noFiles(_ *cobra.Command, words []string) error {
 	if len(words) > 0 {
 		return wrong("%q is no option", words[0])
@@ -197,7 +197,7 @@ func completeFiles(extensions ...string) func(*cobra.Command, []string, string) 
 	}
 }
 
-// completionCommand writes the completions for a shell.
+// completionCommand writes shell completions.
 func completionCommand() *cobra.Command {
 	writers := map[string]func(*cobra.Command, io.Writer) error{
 		"bash": func(root *cobra.Command, to io.Writer) error { return root.GenBashCompletionV2(to, true) },

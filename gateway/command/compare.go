@@ -53,17 +53,17 @@ The status is 0 if nothing differs, and 1 otherwise. docs/CASES.md has more.`,
 		if err := options.check(); err != nil {
 			return err
 		}
-		ctx, stop := untilTold(c)
+		ctx, stop := untilStopped(c)
 		defer stop()
 		return reported(c.ErrOrStderr(), runCompare(ctx, c, paths, options))
 	}
 	return c
 }
 
-// mostDiffering is how many requests are listed whose answers differ.
+// mostDiffering limits the listed requests with different answers.
 const mostDiffering = 100
 
-// A comparing is the comparison of two models.
+// A comparing compares two models.
 type comparing struct {
 	command *cobra.Command
 	options compareOptions
@@ -71,7 +71,7 @@ type comparing struct {
 	names   [2]string
 	sources [2]*service.Source
 	subject [2]*cases.Subject
-	// isAsked says that the engine was asked for something, and so has found the model valid.
+	// isAsked means that the engine answered for a model, and so found it valid.
 	isAsked [2]bool
 	report  compare.Report
 	where   string
@@ -103,7 +103,7 @@ func runCompare(ctx context.Context, c *cobra.Command, paths []string, o compare
 	return it.write()
 }
 
-// compare says what differs.
+// compare reports the differences.
 func (it *comparing) compare(ctx context.Context, paths []string) (err error) {
 	if it.report.Changes, err = compare.Models(it.sources[0], it.sources[1]); err != nil {
 		return refused(err)
@@ -114,7 +114,7 @@ func (it *comparing) compare(ctx context.Context, paths []string) (err error) {
 	return it.borders(ctx)
 }
 
-// check asks the engine whether the models are valid that were not asked for anything.
+// check asks the engine whether the models are valid that it hasn't read yet.
 func (it *comparing) check(ctx context.Context) error {
 	for at, source := range it.sources {
 		if it.isAsked[at] {
@@ -153,7 +153,7 @@ func (it *comparing) side(ctx context.Context, at int, rows *cases.File, questio
 	return &cases.Side{Plan: plan, Asked: asked, Asker: asker}, nil
 }
 
-// outputs are the decisions that both models are asked for: those that the old one answers, as far as the new one has them.
+// outputs returns the decisions that both models are asked for: those that the old one answers and the new one has.
 func (it *comparing) outputs() (both [2][]string, err error) {
 	words, err := it.subject[0].Outputs(it.options.service)
 	if err != nil {
@@ -167,7 +167,7 @@ func (it *comparing) outputs() (both [2][]string, err error) {
 	return both, nil
 }
 
-// requests asks both models for the rows of a file.
+// requests asks both models about a file's rows.
 func (it *comparing) requests(ctx context.Context, path string) error {
 	outputs, err := it.outputs()
 	if err != nil || len(outputs[0]) == 0 {
@@ -209,7 +209,7 @@ func (it *comparing) requests(ctx context.Context, path string) error {
 	return it.ask(ctx, sides)
 }
 
-// borders asks both models for the borders of the tables that changed, each table by itself.
+// borders asks both models about the borders of the changed tables, one table at a time.
 func (it *comparing) borders(ctx context.Context) error {
 	isSeen := map[string]bool{}
 	for _, change := range it.report.Changes {
@@ -224,8 +224,8 @@ func (it *comparing) borders(ctx context.Context) error {
 	return nil
 }
 
-// changedRules are the numbers of the rules of a decision that changed, in the old and the new model; nil where something else of
-// its table did.
+// changedRules returns the numbers of a decision's changed rules, in the old and the new model; nil if anything else in its
+// table changed.
 func changedRules(changes []compare.Change, of string) (only [2]map[int]bool) {
 	only = [2]map[int]bool{{}, {}}
 	for _, change := range changes {
@@ -240,7 +240,7 @@ func changedRules(changes []compare.Change, of string) (only [2]map[int]bool) {
 	return only
 }
 
-// tableBorders asks for the borders of one decision's table, of both models.
+// tableBorders asks both models about the borders of one decision's table.
 func (it *comparing) tableBorders(ctx context.Context, name string, only [2]map[int]bool) error {
 	var rows [][]byte
 	isSeen := map[string]bool{}
@@ -275,7 +275,7 @@ func (it *comparing) tableBorders(ctx context.Context, name string, only [2]map[
 		if sides[at], err = it.side(ctx, at, file, question); err != nil {
 			return err
 		}
-		// Few rows are asked for with their rules at once: each engine reads the model, which may be long.
+		// A few rows are asked with their rules at once, as each engine must read the model, which may be long.
 		sides[at].Asker.Explain = len(rows) <= mostExplained
 	}
 	it.where = "borders of " + name
@@ -329,7 +329,7 @@ func (it *comparing) ask(ctx context.Context, sides [2]*cases.Side) error {
 	return nil
 }
 
-// inputsOf are the inputs of a row by their names: those that either model takes.
+// inputsOf returns a row's inputs by name: those that either model takes.
 func inputsOf(sides [2]*cases.Side, old, new *cases.Answered) string {
 	one, other := sides[0].Plan.Named(old.Inputs), sides[1].Plan.Named(new.Inputs)
 	if bytes.Equal(one, other) {
@@ -350,7 +350,7 @@ func inputsOf(sides [2]*cases.Side, old, new *cases.Answered) string {
 	return string(lines.Compact(nil, all))
 }
 
-// rulesOf are the rules that decided some rows, as lines.
+// rulesOf returns the rules that decided some rows, as lines.
 func rulesOf(ctx context.Context, side *cases.Side, rows []*cases.Answered) ([]string, error) {
 	if !side.Asker.Explain {
 		return side.Rules(ctx, rows)
@@ -362,7 +362,7 @@ func rulesOf(ctx context.Context, side *cases.Side, rows []*cases.Answered) ([]s
 	return rules, nil
 }
 
-// answerOf is an answer, or why there is none.
+// answerOf returns an answer, or why there is none.
 func answerOf(row *cases.Answered) string {
 	if row.Result != nil {
 		return string(row.Result)
@@ -370,7 +370,7 @@ func answerOf(row *cases.Answered) string {
 	return row.Fault
 }
 
-// write writes the report, and gives the status.
+// write writes the report, and returns the status.
 func (it *comparing) write() error {
 	if it.report.Changes == nil {
 		it.report.Changes = []compare.Change{}

@@ -11,11 +11,11 @@ import (
 	"gateway/cases"
 )
 
-// A share is how many of the parts of a model are reached.
+// A share is how many parts of a model are reached.
 type share struct {
 	of           string
 	reached, all int
-	// least is the percentage that is due.
+	// least is the required percentage.
 	least float64
 }
 
@@ -26,7 +26,7 @@ func (s *share) percent() float64 {
 	return 100 * float64(s.reached) / float64(s.all)
 }
 
-// fault says that too few are reached, or gives nil.
+// fault returns an error if too few are reached.
 func (s *share) fault() error {
 	if s.percent() < s.least {
 		return fmt.Errorf("%.1f %% of the %s are reached, and %v %% are due", s.percent(), s.of, s.least)
@@ -34,7 +34,7 @@ func (s *share) fault() error {
 	return nil
 }
 
-// dueShares are the shares of rules and of cells that the options ask for; nil where they ask for none.
+// dueShares returns the required shares of rules and cells, or nil.
 func (o *casesOptions) dueShares() ([]*share, error) {
 	if o.coverage == "" && o.cells == "" {
 		return nil, nil
@@ -58,7 +58,7 @@ func dueShare(option, of, text string) (*share, error) {
 	return &share{of: of, least: least}, nil
 }
 
-// writeCoverage lists the rules that no row reached, and the cells where these are asked for. The error says that too few are.
+// writeCoverage lists the rules that no row reached, and such cells if requested. It returns an error if too few are reached.
 func writeCoverage(c *cobra.Command, path string, o casesOptions, shares []*share) error {
 	source, err := o.readModel(c, path)
 	if err != nil {
@@ -86,7 +86,7 @@ func writeCoverage(c *cobra.Command, path string, o casesOptions, shares []*shar
 	return err
 }
 
-// writeCovered lists what of a table is not reached, and adds to the shares of rules and of cells.
+// writeCovered lists what a table's rows didn't reach, and adds to the shares of rules and cells.
 func writeCovered(to io.Writer, it *cases.Covered, shares []*share) {
 	rules := shares[0]
 	rules.all, rules.reached = rules.all+it.Rules, rules.reached+it.Rules-len(it.Unreached)

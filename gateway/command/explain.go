@@ -58,7 +58,7 @@ names and decimals of a .dmn file.
 	return c
 }
 
-// explainInText answers lines, and says in words how each answer came about.
+// explainInText answers lines, and explains each answer as text.
 func explainInText(c *cobra.Command, lines *source, options tell.ExplainOptions) error {
 	path, err := engine.Path()
 	if err != nil {

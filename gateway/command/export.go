@@ -35,7 +35,7 @@ is not valid, or has a place that DMN can't express, is reported on standard err
 	}
 }
 
-// runExport writes a model as a file of DMN on standard output.
+// runExport writes a model as a DMN file on standard output.
 func runExport(c *cobra.Command, path string) error {
 	data, err := readAll(c, path)
 	if err != nil {
@@ -65,9 +65,9 @@ func runExport(c *cobra.Command, path string) error {
 	return nil
 }
 
-// fileOf writes the file of a model. One that was imported is written so that it is imported again to the same model: with
-// the texts, names and types of its file, else with fewer of them, also where names would run into each other. Where that can't
-// be had, it is told.
+// fileOf writes a model's file. An imported model is written so that importing it again gives the same model: with its file's
+// texts, names and types, or else with fewer of them, for example where names would run together. If that isn't possible it is
+// reported.
 func fileOf(source export.Source, faults io.Writer) ([]byte, []export.Refusal) {
 	if source.IsWritten {
 		file, err := writtenFile(source)
@@ -84,7 +84,7 @@ func fileOf(source export.Source, faults io.Writer) ([]byte, []export.Refusal) {
 	return wholeFile(source, faults)
 }
 
-// wholeFile is the file of a model with its own numbers.
+// wholeFile returns a model's file with its own numbers.
 func wholeFile(source export.Source, faults io.Writer) ([]byte, []export.Refusal) {
 	file, refused := export.File(source)
 	if !source.Imported {
@@ -102,7 +102,7 @@ func wholeFile(source export.Source, faults io.Writer) ([]byte, []export.Refusal
 		}
 		if !way.named {
 			again = withNames(&source, names, again)
-			tellDropped(source, names, faults)
+			reportDropped(source, names, faults)
 		}
 		return again, nil
 	}
@@ -112,8 +112,8 @@ func wholeFile(source export.Source, faults io.Writer) ([]byte, []export.Refusal
 	return file, refused
 }
 
-// writtenFile is the file of a model with the texts of its first file, and with types that are known of values where it may have them.
-// The error says why it isn't imported again to the same model.
+// writtenFile returns a model's file with its first file's texts, and with the known types where allowed. An error says why
+// importing it doesn't give the same model.
 func writtenFile(source export.Source) (file []byte, err error) {
 	decimals := profile.NoDecimals()
 	decimals.Named = source.Decimals()
@@ -129,10 +129,10 @@ func writtenFile(source export.Source) (file []byte, err error) {
 	return nil, err
 }
 
-// errOtherModel says that a file gives another model.
+// errOtherModel means that a file gives another model.
 var errOtherModel = errors.New("imported again, the file gives another model")
 
-// importedTo says why a file isn't imported to the model of a source. The words that only a translation has may be others.
+// importedTo returns why a file isn't imported to a source's model. Words that only a translation has may differ.
 func importedTo(file []byte, source export.Source, options profile.Options) error {
 	read, err := dmn.Read("exported.dmn", bytes.NewReader(file))
 	if err != nil {
@@ -153,16 +153,17 @@ func importedTo(file []byte, source export.Source, options profile.Options) erro
 	return err
 }
 
-// sameAgain writes the file of a source, and tells whether it is imported again to the same model.
+// sameAgain writes a source's file, and reports whether importing it gives the same model.
 func sameAgain(source export.Source) (file []byte, fine bool) {
 	file, refusals := export.File(source)
 	return file, len(refusals) == 0 && importsTo(file, source.Model)
 }
 
-// mostTrials is how many imports look for names that can be written.
+// mostTrials limits the imports that look for usable names.
 const mostTrials = 64
 
-// withNames gives a source, whose file without names is imported to the same model, as many names as leave it so.
+// withNames gives a source, whose file without names is imported to the same model, as many names as possible without changing
+// that.
 func withNames(source *export.Source, names map[string]string, file []byte) []byte {
 	words := make([]string, 0, len(names))
 	for word, name := range names {
@@ -198,8 +199,8 @@ func withNames(source *export.Source, names map[string]string, file []byte) []by
 	return file
 }
 
-// tellDropped notes the names that could not be written, in their order.
-func tellDropped(source export.Source, names map[string]string, faults io.Writer) {
+// reportDropped reports the names that could not be written, in order.
+func reportDropped(source export.Source, names map[string]string, faults io.Writer) {
 	var dropped []string
 	for word, name := range names {
 		if source.Names[word] != name && word != name {
@@ -212,7 +213,7 @@ func tellDropped(source export.Source, names map[string]string, faults io.Writer
 	}
 }
 
-// importsTo tells whether a file is imported to a model.
+// importsTo reports whether a file is imported to a model.
 func importsTo(file []byte, due *model.Model) bool {
 	read, err := dmn.Read("exported.dmn", bytes.NewReader(file))
 	if err != nil {
@@ -230,7 +231,7 @@ func importsTo(file []byte, due *model.Model) bool {
 	return err == nil && bytes.Equal(got, want)
 }
 
-// checkModel asks the engine whether the model is valid, and reports what it says of one that is not.
+// checkModel asks the engine whether the model is valid, and reports its faults.
 func checkModel(c *cobra.Command, source export.Source) error {
 	text, err := source.Model.JSON()
 	if err != nil {

@@ -8,7 +8,7 @@ import (
 	"gateway/export"
 )
 
-// TestOneAwkwardNameDropsNoOther has a name that beside another one would be read otherwise.
+// TestOneAwkwardNameDropsNoOther has a name that another one makes ambiguous.
 func TestOneAwkwardNameDropsNoOther(t *testing.T) {
 	file := header + `<inputData id="a" name="net price"/><inputData id="b" name="if 1"/><inputData id="c" name="x"/><decision id="d" name="Gross Price">` +
 		`<informationRequirement><requiredInput href="#a"/></informationRequirement><informationRequirement><requiredInput href="#b"/>` +
@@ -18,20 +18,20 @@ func TestOneAwkwardNameDropsNoOther(t *testing.T) {
 	if err != nil {
 		t.Fatal(err)
 	}
-	// Two words of one name.
+	// Two words with one name.
 	source.Names["x"] = "net  price"
-	var told bytes.Buffer
-	exported, refusals := fileOf(source, &told)
+	var messages bytes.Buffer
+	exported, refusals := fileOf(source, &messages)
 	if len(refusals) > 0 || !bytes.Contains(exported, []byte(`name="Gross Price"`)) || !bytes.Contains(exported, []byte(`name="if 1"`)) {
-		t.Errorf("%v %s\n%s", refusals, told.String(), exported)
+		t.Errorf("%v %s\n%s", refusals, messages.String(), exported)
 	}
-	if strings.Count(told.String(), "\n") != 1 || !strings.Contains(told.String(), "is written as") {
-		t.Errorf("told is %s", told.String())
+	if strings.Count(messages.String(), "\n") != 1 || !strings.Contains(messages.String(), "is written as") {
+		t.Errorf("told is %s", messages.String())
 	}
 }
 
-// TestAllowedValuesMakeARoundTrip has values that are held against allowed values: the file that is exported has their types,
-// and is imported to the same model.
+// TestAllowedValuesMakeARoundTrip has values that are tested against allowed values: the exported file has their types, and
+// importing it gives the same model.
 func TestAllowedValuesMakeARoundTrip(t *testing.T) {
 	file := header + `<itemDefinition name="tTen"><typeRef>number</typeRef><allowedValues><text>[0..10]</text></allowedValues></itemDefinition>` +
 		`<itemDefinition name="tOffer"><itemComponent name="rate"><typeRef>tTen</typeRef></itemComponent></itemDefinition>` +
@@ -44,15 +44,15 @@ func TestAllowedValuesMakeARoundTrip(t *testing.T) {
 	if err != nil {
 		t.Fatal(err)
 	}
-	var told bytes.Buffer
-	exported, refusals := fileOf(source, &told)
-	if len(refusals) > 0 || told.Len() > 0 || strings.Count(string(exported), "<allowedValues") != 2 {
-		t.Errorf("%v %s\n%s", refusals, told.String(), exported)
+	var messages bytes.Buffer
+	exported, refusals := fileOf(source, &messages)
+	if len(refusals) > 0 || messages.Len() > 0 || strings.Count(string(exported), "<allowedValues") != 2 {
+		t.Errorf("%v %s\n%s", refusals, messages.String(), exported)
 	}
 }
 
-// TestDecimalsMakeARoundTrip exports models of files with decimals: what the files say is in the files that are exported, and those are
-// imported to the same models.
+// TestDecimalsMakeARoundTrip exports models of files with decimals: the exported files have the same texts, and importing them
+// gives the same models.
 func TestDecimalsMakeARoundTrip(t *testing.T) {
 	inputs := `<itemDefinition name="tOffer"><itemComponent name="net price"><typeRef>number</typeRef></itemComponent></itemDefinition>` +
 		`<itemDefinition name="tTen"><typeRef>number</typeRef><allowedValues><text>[0..10.5]</text></allowedValues></itemDefinition>` +
@@ -109,10 +109,10 @@ func TestDecimalsMakeARoundTrip(t *testing.T) {
 		if err != nil {
 			t.Fatalf("%s: %v", name, err)
 		}
-		var told bytes.Buffer
-		exported, refusals := fileOf(source, &told)
-		if len(refusals) > 0 || told.Len() > 0 {
-			t.Errorf("%s: %v %s\n%s", name, refusals, told.String(), exported)
+		var messages bytes.Buffer
+		exported, refusals := fileOf(source, &messages)
+		if len(refusals) > 0 || messages.Len() > 0 {
+			t.Errorf("%s: %v %s\n%s", name, refusals, messages.String(), exported)
 		}
 		for _, due := range append(row.due, `name="the d"`, `name="a y"`, `typeRef="number"`) {
 			if !strings.Contains(string(exported), due) {
@@ -122,7 +122,7 @@ func TestDecimalsMakeARoundTrip(t *testing.T) {
 	}
 }
 
-// TestWhatCantBeWrittenBackIsReported has an invocation, whose function the model names no more.
+// TestWhatCantBeWrittenBackIsReported has an invocation whose function's name is not in the model.
 func TestWhatCantBeWrittenBackIsReported(t *testing.T) {
 	file := header + `<inputData id="x" name="x"><variable name="x" typeRef="number"/></inputData><businessKnowledgeModel id="b" name="gross">` +
 		`<encapsulatedLogic><formalParameter name="net" typeRef="number"/><literalExpression><text>net * 1.19</text></literalExpression></encapsulatedLogic>` +
@@ -133,11 +133,11 @@ func TestWhatCantBeWrittenBackIsReported(t *testing.T) {
 	if err != nil {
 		t.Fatal(err)
 	}
-	var told bytes.Buffer
-	exported, refusals := fileOf(source, &told)
-	lines := strings.Split(strings.TrimSpace(told.String()), "\n")
+	var messages bytes.Buffer
+	exported, refusals := fileOf(source, &messages)
+	lines := strings.Split(strings.TrimSpace(messages.String()), "\n")
 	if len(refusals) > 0 || len(lines) != 2 || !strings.Contains(lines[0], `can't be written back: exported.dmn`) || !strings.Contains(lines[0], `"net"`) ||
 		!strings.Contains(lines[1], "whole numbers, which count units of the first file: of the d, x") || !strings.Contains(string(exported), "net_1 * 119") {
-		t.Errorf("%v %s\n%s", refusals, told.String(), exported)
+		t.Errorf("%v %s\n%s", refusals, messages.String(), exported)
 	}
 }

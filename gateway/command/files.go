@@ -18,7 +18,7 @@ import (
 	"gateway/profile"
 )
 
-// dash is the file name that means standard input, and stdinName is how messages call it.
+// dash is the file name for standard input, stdinName its name in messages.
 const (
 	dash      = "-"
 	stdinName = "<stdin>"
@@ -26,9 +26,9 @@ const (
 
 // A source is an open file of the command line.
 type source struct {
-	// Reader is an *os.File where the engine may read it itself.
+	// Reader is an *os.File if the engine may read it itself.
 	io.Reader
-	// name is how messages call it.
+	// name is its name in messages.
 	name string
 	file *os.File
 }
@@ -40,7 +40,7 @@ func (s *source) Close() error {
 	return s.file.Close()
 }
 
-// open opens a file, or standard input for a dash. A folder can't be opened.
+// open opens a file, or standard input for a dash. It refuses folders.
 func open(c *cobra.Command, path string) (*source, error) {
 	if path == dash {
 		return &source{Reader: c.InOrStdin(), name: stdinName}, nil
@@ -70,7 +70,7 @@ func readAll(c *cobra.Command, path string) ([]byte, error) {
 	return text, nil
 }
 
-// isDMN reports whether a file is taken for one of DMN: by its name, or where it begins as XML does.
+// isDMN reports whether a file is DMN, by its name or because it begins like XML.
 func isDMN(path string, text []byte) bool {
 	if path != dash {
 		return strings.EqualFold(filepath.Ext(path), ".dmn")
@@ -79,7 +79,7 @@ func isDMN(path string, text []byte) bool {
 	return bytes.HasPrefix(bytes.TrimLeft(text, " \t\r\n"), []byte("<"))
 }
 
-// oneStdin refuses a command line in which standard input stands for two files.
+// oneStdin refuses a command line with standard input twice.
 func oneStdin(paths []string) error {
 	count := 0
 	for _, path := range paths {
@@ -93,7 +93,7 @@ func oneStdin(paths []string) error {
 	return nil
 }
 
-// readFile reads a file of DMN.
+// readFile reads a DMN file.
 func readFile(c *cobra.Command, path string) (*dmn.File, error) {
 	from, err := open(c, path)
 	if err != nil {
@@ -103,7 +103,7 @@ func readFile(c *cobra.Command, path string) (*dmn.File, error) {
 	return dmn.Read(from.name, from)
 }
 
-// readFiles reads each file. Those that are no DMN are all reported, and given as faults.
+// readFiles reads each file. It reports all that aren't DMN, and returns them as faults.
 func readFiles(c *cobra.Command, paths []string) (all []*dmn.File, faults []profile.Refusal, err error) {
 	var done atomic.Int64
 	shown := showProgress(c.ErrOrStderr(), "reading", files, int64(len(paths)), done.Load)
@@ -134,8 +134,8 @@ func shownAs(path string) string {
 	return path
 }
 
-// openStandardFiles opens the standard streams that are closed, so that no other file gets their numbers. Reading and
-// writing them fails, as it would have.
+// openStandardFiles opens closed standard streams, so that no other file gets their numbers. Reading and writing them fails as
+// before.
 func openStandardFiles() {
 	for descriptor, mode := range []int{unix.O_WRONLY, unix.O_RDONLY, unix.O_RDONLY} {
 		if _, err := unix.FcntlInt(uintptr(descriptor), unix.F_GETFD, 0); errors.Is(err, unix.EBADF) {

@@ -13,8 +13,7 @@ import (
 	"gateway/engine"
 )
 
-// isHandedOver reports whether the words are for the engine as they are: those of replay and serve, where they ask for no
-// help.
+// isHandedOver reports whether the words go to the engine unchanged: those of replay and serve without a request for help.
 func isHandedOver(words []string) bool {
 	if len(words) == 0 || words[0] != "replay" && words[0] != "serve" {
 		return false
@@ -30,7 +29,7 @@ func isHandedOver(words []string) bool {
 	return true
 }
 
-// handOver becomes the engine. It returns only where that fails.
+// handOver replaces the process with the engine. It only returns if that fails.
 func handOver(words []string) error {
 	path, err := engine.Path()
 	if err != nil {
@@ -41,7 +40,7 @@ func handOver(words []string) error {
 	return engine.NotStarted(path, err)
 }
 
-// replayCommand and serveCommand describe what the engine does.
+// replayCommand and serveCommand describe the engine's commands.
 func replayCommand() *cobra.Command {
 	return &cobra.Command{
 		Use:   "replay",
@@ -88,17 +87,17 @@ after it.
 const engineStatus = `The status is 0 at the end of the input, and 1 if a fault ended the run. Standard error then has one word: read,
 write, long (over 2^40 bytes came) or memory. docs/LINES.md has every line and its answers.`
 
-// engineNumbers are the options of serve, as the engine reads them.
+// engineNumbers adds serve's options as the engine reads them.
 func engineNumbers(flags *pflag.FlagSet) {
 	flags.String("clients", "8", "Serve this `NUMBER` of clients, 1 to 64")
 	flags.String("workers", "4", "Evaluate with this `NUMBER` of workers, 1 to 8")
 	flags.String("capacity", "64", "Allow this `NUMBER` of outstanding requests per client, 1 to 4096")
 }
 
-// handOverAll runs where options of the program come before the command.
+// handOverAll runs if the program's options come before the command.
 func handOverAll(*cobra.Command, []string) error { return handOver(os.Args[1:]) }
 
-// engineWords are the command and the options that were given, as the engine reads them.
+// engineWords returns the command and its options as the engine reads them.
 func engineWords(c *cobra.Command) []string {
 	words := []string{c.Name()}
 	c.Flags().Visit(func(f *pflag.Flag) {
@@ -112,7 +111,7 @@ func engineWords(c *cobra.Command) []string {
 	return words
 }
 
-// askEngine runs the engine on an input. What it writes goes where this command writes, and its status is this command's.
+// askEngine runs the engine on an input. Its output goes to this command's, and its status is this command's.
 func askEngine(c *cobra.Command, input *source, words []string) error {
 	path, err := engine.Path()
 	if err != nil {

@@ -5,14 +5,14 @@ import (
 	"runtime/debug"
 )
 
-// The heap of a program that hands lines on grows to five times of what is in use before it is collected, but within linesHeap the
-// collector works more often. What GOGC or GOMEMLIMIT says counts instead.
+// A program that passes lines on lets its heap grow to five times what is in use before a collection, and collects more often
+// only past linesHeap. GOGC and GOMEMLIMIT override this.
 const (
 	linesGarbage = 400 // percent
 	linesHeap    = 192 << 20
 )
 
-// collectSeldom lets this program collect its heap less often.
+// collectSeldom makes collections of the heap rarer.
 func collectSeldom() {
 	if os.Getenv("GOGC") == "" && os.Getenv("GOMEMLIMIT") == "" {
 		debug.SetGCPercent(linesGarbage)

@@ -8,7 +8,7 @@ import (
 	"github.com/spf13/cobra"
 )
 
-// writeHelp writes the help of a command. A text that can't be written changes no status.
+// writeHelp writes a command's help. A failed write changes no status.
 func writeHelp(to io.Writer, c *cobra.Command) {
 	fmt.Fprintf(to, "%s\n\nUsage: %s\n", c.Short, usageOf(c))
 	if c.HasSubCommands() {
@@ -23,7 +23,7 @@ func writeHelp(to io.Writer, c *cobra.Command) {
 	}
 }
 
-// usageOf is the line of usage: the command with what it takes.
+// usageOf returns the usage line: the command with its arguments.
 func usageOf(c *cobra.Command) string {
 	if c.HasParent() {
 		return c.Parent().CommandPath() + " " + c.Use

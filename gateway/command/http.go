@@ -37,7 +37,7 @@ type httpOptions struct {
 	deadline    duration
 	memory      size
 	journalSize size
-	// journalLimit is 0 where the journal may be as large as it gets, keep where it is kept forever.
+	// journalLimit is 0 for a journal of any size, keep for one kept forever.
 	journalLimit size
 	log          string
 	keep         days
@@ -113,19 +113,19 @@ func runHTTP(c *cobra.Command, files []string, o httpOptions) error {
 		return err
 	}
 	options.Turn = turns()
-	// A log that nobody reads any more ends no service.
+	// A log without a reader ends no service.
 	signal.Notify(make(chan os.Signal, 1), syscall.SIGPIPE)
-	ctx, stop := untilTold(c)
+	ctx, stop := untilStopped(c)
 	defer stop()
 	return reported(c.ErrOrStderr(), serveHTTP(ctx, c, files, o, options))
 }
 
-// untilTold is a context that ends with SIGTERM or SIGINT.
-func untilTold(c *cobra.Command) (context.Context, context.CancelFunc) {
+// untilStopped returns a context that ends with SIGTERM or SIGINT.
+func untilStopped(c *cobra.Command) (context.Context, context.CancelFunc) {
 	return signal.NotifyContext(c.Context(), os.Interrupt, syscall.SIGTERM)
 }
 
-// turns is sent to for each SIGHUP.
+// turns returns a channel that receives a value for each SIGHUP.
 func turns() <-chan struct{} {
 	hangUp := make(chan os.Signal, 1)
 	signal.Notify(hangUp, syscall.SIGHUP)
@@ -141,16 +141,16 @@ func turns() <-chan struct{} {
 // maxProcesses is the most engines.
 const maxProcesses = 64
 
-// processesFlag adds the option that says how many engines there are.
+// processesFlag adds the option for the number of engines.
 func processesFlag(flags *pflag.FlagSet, count *int) {
 	flags.IntVar(count, "processes", enginesFor(runtime.NumCPU()), "Run this `NUMBER` of engines, 1 to 64")
 	flags.Lookup("processes").DefValue = "one per processor, at most 64"
 }
 
-// enginesFor is how many engines there are on a machine where nothing says it.
+// enginesFor returns the default number of engines on a machine.
 func enginesFor(processors int) int { return least(processors, maxProcesses) }
 
-// maxTried is of how many pieces engines are asked at once at a trial.
+// maxTried limits the pieces that engines are asked at once in a trial.
 const maxTried = 2
 
 func serveHTTP(ctx context.Context, c *cobra.Command, files []string, o httpOptions, options service.Options) error {
@@ -188,7 +188,7 @@ func serveHTTP(ctx context.Context, c *cobra.Command, files []string, o httpOpti
 	return service.Run(ctx, options)
 }
 
-// reported adds the places of a model that has faults, each on a line, and the status of such a model.
+// reported adds a faulty model's places, one a line, and the status of such a model.
 func reported(to io.Writer, err error) error {
 	var faulty *engine.FaultyModel
 	var places refusedPlaces
@@ -210,14 +210,14 @@ func reported(to io.Writer, err error) error {
 	return refused(err)
 }
 
-// errOpen refuses to serve everyone without having been told to.
+// errOpen refuses to serve everyone unless asked to.
 var errOpen = errors.New("anyone who can reach it would be answered; give --tokens FILE, or --open")
 
-// defaultAddress is where the service listens unless told otherwise.
+// defaultAddress is the default address of the service.
 const defaultAddress = "127.0.0.1:8080"
 
-// listen opens the address, or takes the socket that systemd passes; shared says which. An address that other machines
-// can reach is refused unless it may be open.
+// listen opens the address, or takes systemd's socket; shared says which. It refuses an address that other machines can reach
+// unless mayBeOpen.
 func listen(address string, mayBeOpen bool) (listener net.Listener, shared bool, err error) {
 	if shared = address == "" && isPassed(); shared {
 		listener, err = passed()
@@ -256,7 +256,7 @@ func isPassed() bool {
 	return os.Getenv("LISTEN_PID") == strconv.Itoa(os.Getpid()) && os.Getenv("LISTEN_FDS") != ""
 }
 
-// firstPassed is the first descriptor that systemd passes.
+// firstPassed is the first descriptor from systemd.
 const firstPassed = 3
 
 func passed() (net.Listener, error) {
@@ -270,7 +270,7 @@ func passed() (net.Listener, error) {
 	return listener, nil
 }
 
-// readModel reads the files of the command line: one model in JSON, or files of DMN.
+// readModel reads the command line's files: one JSON model, or DMN files.
 func readModel(c *cobra.Command, files []string, options profile.Options, log func(string, ...any)) (*service.Source, error) {
 	if err := oneStdin(files); err != nil {
 		return nil, err
@@ -292,7 +292,7 @@ func readModel(c *cobra.Command, files []string, options profile.Options, log fu
 	return source, nil
 }
 
-// putDMN reads files in DMN that are put.
+// putDMN reads uploaded DMN files.
 func putDMN(options profile.Options, log func(string, ...any)) func(text []byte) (*service.Source, error) {
 	return func(text []byte) (*service.Source, error) {
 		return readDMN([]string{"the body"}, func(path string) (*dmn.File, error) {
@@ -301,7 +301,7 @@ func putDMN(options profile.Options, log func(string, ...any)) func(text []byte)
 	}
 }
 
-// refusedPlaces is the error of files in DMN with places that can't be taken.
+// refusedPlaces is the error of DMN files with unsupported places.
 type refusedPlaces []profile.Refusal
 
 func (r refusedPlaces) Error() string {
@@ -311,7 +311,7 @@ func (r refusedPlaces) Error() string {
 	return fmt.Sprintf("%d places can't be taken; the first: %s", len(r), r[0])
 }
 
-// Errors has each place as JSON.
+// Errors returns each place as JSON.
 func (r refusedPlaces) Errors() []json.RawMessage {
 	var all []json.RawMessage
 	for _, place := range r {
@@ -333,7 +333,7 @@ func (r refusedPlaces) Errors() []json.RawMessage {
 	return all
 }
 
-// readDMN reads files in DMN, and translates them to one model.
+// readDMN reads DMN files, and translates them to one model.
 func readDMN(paths []string, read func(path string) (*dmn.File, error), options profile.Options,
 	log func(string, ...any)) (*service.Source, error) {
 	var files []*dmn.File

@@ -15,7 +15,7 @@ import (
 	"testing"
 )
 
-// halfRefused is a file with a decision f that can't be taken, and others of which h alone needs it.
+// halfRefused is a file with a refused decision f, which only h of the others needs.
 const halfRefused = header + `<inputData id="a" name="a"><variable name="a" typeRef="number"/></inputData>` +
 	`<decision id="d" name="d"><informationRequirement><requiredInput href="#a"/></informationRequirement>` +
 	`<literalExpression><text>a + 1</text></literalExpression></decision>` +
@@ -25,15 +25,15 @@ const halfRefused = header + `<inputData id="a" name="a"><variable name="a" type
 	`<decision id="h" name="h"><informationRequirement><requiredDecision href="#f"/></informationRequirement>` +
 	`<literalExpression><text>f</text></literalExpression></decision></definitions>`
 
-// A served is a service over HTTP, which a test began.
+// A served is a service over HTTP that a test started.
 type served struct {
-	client http.Client
-	stop   context.CancelFunc
-	ended  chan error
-	told   *bytes.Buffer
+	client   http.Client
+	stop     context.CancelFunc
+	ended    chan error
+	messages *bytes.Buffer
 }
 
-// serve begins desk http with options, and waits until it answers, or has ended.
+// serve starts desk http with options, and waits until it answers or has ended.
 func serve(t *testing.T, text string, options ...string) *served {
 	t.Helper()
 	folder, err := os.MkdirTemp("", "desk")
@@ -42,13 +42,13 @@ func serve(t *testing.T, text string, options ...string) *served {
 	}
 	t.Cleanup(func() { os.RemoveAll(folder) })
 	socket := filepath.Join(folder, "s")
-	s := &served{ended: make(chan error, 1), told: &bytes.Buffer{}}
+	s := &served{ended: make(chan error, 1), messages: &bytes.Buffer{}}
 	s.client.Transport = &http.Transport{DisableKeepAlives: true, DialContext: func(ctx context.Context, _, _ string) (net.Conn, error) {
 		return new(net.Dialer).DialContext(ctx, "unix", socket)
 	}}
 	root := newRoot()
 	root.SetOut(io.Discard)
-	root.SetErr(s.told)
+	root.SetErr(s.messages)
 	root.SetArgs(append([]string{"http", "--listen", "unix:" + socket, "--processes", "1", file(t, text)}, options...))
 	ctx, stop := context.WithCancel(context.Background())
 	s.stop = stop
@@ -57,7 +57,7 @@ func serve(t *testing.T, text string, options ...string) *served {
 	return s
 }
 
-// names are those of its services; nil where it ended.
+// names returns the names of its services; nil if it ended.
 func (s *served) names(t *testing.T) (names []string) {
 	t.Helper()
 	for {
@@ -86,7 +86,7 @@ func (s *served) names(t *testing.T) (names []string) {
 	}
 }
 
-// asked is what a service answers, with its status.
+// asked returns a service's answer and its status.
 func (s *served) asked(t *testing.T, name, inputs string) (status int, body string) {
 	t.Helper()
 	answer, err := s.client.Post("http://desk/v1/services/"+name, "application/json", strings.NewReader(inputs))
@@ -104,10 +104,10 @@ func (s *served) asked(t *testing.T, name, inputs string) (status int, body stri
 // TestPartsOfAFileOverHTTP serves what needs no refused place, and the closure of one service.
 func TestPartsOfAFileOverHTTP(t *testing.T) {
 	for _, c := range []struct {
-		name    string
-		options []string
-		due     []string
-		told    string
+		name     string
+		options  []string
+		due      []string
+		messages string
 	}{
 		{"all of it", nil, nil, `no function string length`},
 		{"what can be made", []string{"--partial"}, []string{"d", "e"}, `no function string length`},
@@ -130,12 +130,12 @@ func TestPartsOfAFileOverHTTP(t *testing.T) {
 			}
 			s.stop()
 			err := <-s.ended
-			told := s.told.String()
+			messages := s.messages.String()
 			if err != nil {
-				told += err.Error()
+				messages += err.Error()
 			}
-			if (err == nil) != (c.due != nil) || !strings.Contains(told, c.told) {
-				t.Errorf("it ended with %v\n%s", err, told)
+			if (err == nil) != (c.due != nil) || !strings.Contains(messages, c.messages) {
+				t.Errorf("it ended with %v\n%s", err, messages)
 			}
 		})
 	}

@@ -13,17 +13,17 @@ import (
 	"gateway/service"
 )
 
-// keptAnswers is how many bytes of answers of partitions are kept at most.
+// keptAnswers limits the bytes of kept answers from partitions.
 const keptAnswers = 64 << 20
 
-// partitionFlags adds the options by which partitions answer the calls.
+// partitionFlags adds the options for answers from partitions.
 func partitionFlags(flags *pflag.FlagSet, o *httpOptions) {
 	flags.BoolVar(&o.partitions, "partitions", false, "Let the partitions on RabbitMQ answer, which DESK_BROKERS and DESK_PARTITIONS name")
 	flags.Var(&o.wait, "wait", "With --partitions, wait this long for an answer until status 202 says where to ask later, 10ms to 25s")
 	flags.Var(&o.keepAnswers, "keep-answers", "With --partitions, keep answers for this long, 10s to 24h")
 }
 
-// setPartitions lets the partitions answer, where that is asked for.
+// setPartitions lets the partitions answer, if requested.
 func setPartitions(options *service.Options, c *cobra.Command, o httpOptions) error {
 	if !o.partitions {
 		return nil

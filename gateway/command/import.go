@@ -15,7 +15,7 @@ import (
 	"gateway/profile"
 )
 
-// An import ends soon, so that garbage is collected seldom, up to a size of the heap from which on it is collected as it is due.
+// An import is short, so garbage is collected rarely, up to a heap size from which collection is normal.
 const (
 	importGarbage = 400
 	importMemory  = 400 << 20
@@ -49,7 +49,7 @@ write instead; the status is 3 then. docs/DMN.md has each construct.`,
 	return c
 }
 
-// runImport reads the files, translates them and writes the model, or what is not supported.
+// runImport reads and translates the files, and writes the model, or what is not supported.
 func runImport(c *cobra.Command, paths []string, options importOptions) error {
 	if err := oneStdin(paths); err != nil {
 		return err
@@ -70,31 +70,31 @@ func runImport(c *cobra.Command, paths []string, options importOptions) error {
 	return writeImported(c.OutOrStdout(), report.Result, options.line)
 }
 
-// reportImport reports the places and notes of an import, a line each. It returns whether there is a result.
+// reportImport reports the places and notes of an import, one a line. It returns whether there is a result.
 func reportImport(errs io.Writer, report *profile.Report) bool {
-	told := bufio.NewWriter(errs)
-	defer told.Flush()
+	messages := bufio.NewWriter(errs)
+	defer messages.Flush()
 	for _, refusal := range report.Refusals {
-		fmt.Fprintln(told, refusal)
+		fmt.Fprintln(messages, refusal)
 	}
 	if summary := report.Summary(); summary != "" {
-		fmt.Fprintln(told, "desk import: "+summary)
+		fmt.Fprintln(messages, "desk import: "+summary)
 	}
 	result := report.Result
 	if result == nil {
 		return false
 	}
 	for _, note := range result.Notes {
-		fmt.Fprintf(told, "note: %s\n", note)
+		fmt.Fprintf(messages, "note: %s\n", note)
 	}
 	for _, name := range result.LeftOut {
-		fmt.Fprintf(told, "desk import: the decision %q has no service of its own: the model would be longer than a line; "+
+		fmt.Fprintf(messages, "desk import: the decision %q has no service of its own: the model would be longer than a line; "+
 			"--service picks it\n", name)
 	}
 	return true
 }
 
-// writeImported writes the model with what its files say beside it, or its line alone.
+// writeImported writes the model with what its files say about it, or just its line.
 func writeImported(out io.Writer, result *profile.Result, lineAlone bool) error {
 	line, err := profile.Line(&result.Model)
 	if err != nil {
@@ -124,7 +124,7 @@ func wholeImport(result *profile.Result) ([]byte, error) {
 		Domains  map[string]string          `json:"domains,omitempty"`
 		Required []string                   `json:"required,omitempty"`
 		Places   map[string]profile.Place   `json:"places"`
-		// Diagram stands where the file draws each input and decision.
+		// Diagram is where the file draws each input and decision.
 		Diagram  map[string]dmn.Box `json:"diagram,omitempty"`
 		Language string             `json:"language,omitempty"`
 	}{&result.Model, result.Names, result.Locals, result.Types, result.Domains, result.Required, result.Places, result.Diagram, result.Language})

@@ -15,7 +15,7 @@ import (
 
 const header = `<definitions xmlns="https://www.omg.org/spec/DMN/20191111/MODEL/" name="m" namespace="n">`
 
-// file writes a .dmn file of its own and gives its path.
+// file writes a new .dmn file and returns its path.
 func file(t *testing.T, text string) string {
 	t.Helper()
 	path := filepath.Join(t.TempDir(), "f.dmn")
@@ -25,7 +25,7 @@ func file(t *testing.T, text string) string {
 	return path
 }
 
-// decided is a file with one decision of a text.
+// decided returns a file with one decision that has this text.
 func decided(text string) string {
 	return header + `<decision id="d" name="my decision"><literalExpression><text>` + text +
 		`</text></literalExpression></decision></definitions>`
@@ -35,15 +35,15 @@ func imports(words ...string) (status int, out, errs string) {
 	return runs("", append([]string{"import"}, words...)...)
 }
 
-// runs runs the command line on an input.
+// runs runs a command line on an input.
 func runs(input string, words ...string) (status int, out, errs string) {
-	var written, told bytes.Buffer
+	var written, messages bytes.Buffer
 	root := newRoot()
 	root.SetIn(strings.NewReader(input))
 	root.SetOut(&written)
-	root.SetErr(&told)
+	root.SetErr(&messages)
 	status = run(root, words)
-	return status, written.String(), told.String()
+	return status, written.String(), messages.String()
 }
 
 func TestImportWritesTheModelAndWhatItsFileSays(t *testing.T) {
@@ -52,8 +52,8 @@ func TestImportWritesTheModelAndWhatItsFileSays(t *testing.T) {
 		`"my_decision","outputs":["my_decision"],"encapsulated":[],"inputDecisions":[],"inputData":[]}]},` +
 		`"names":{"my_decision":"my decision"},"types":{"my_decision":{"type":["boolean","null"]}},` +
 		`"places":{"/decisions/0":{"id":"d","name":"my decision"}}}` + "\n"
-	told := ": in requests and answers \"my decision\" is my_decision\n"
-	if status != 0 || out != due || !strings.HasPrefix(errs, "note: ") || !strings.HasSuffix(errs, told) {
+	messages := ": in requests and answers \"my decision\" is my_decision\n"
+	if status != 0 || out != due || !strings.HasPrefix(errs, "note: ") || !strings.HasSuffix(errs, messages) {
 		t.Errorf("status %d\n%s%s", status, out, errs)
 	}
 }
@@ -81,7 +81,7 @@ func TestImportPicksAService(t *testing.T) {
 	}
 }
 
-func TestImportTellsARefusedPlaceOnOneLine(t *testing.T) {
+func TestImportReportsARefusedPlaceOnOneLine(t *testing.T) {
 	path := file(t, decided("a + odd(\n 2)"))
 	status, out, errs := imports(path)
 	column := len(header) + len(`<decision id="d" name="my decision">`) + 1
@@ -103,7 +103,7 @@ func TestImportOfSeveralFiles(t *testing.T) {
 	}
 }
 
-func TestImportTellsDecisionsThatGotNoService(t *testing.T) {
+func TestImportReportsDecisionsThatGotNoService(t *testing.T) {
 	const need = `<decision id="d#" name="decision number #"><informationRequirement><requiredDecision href="&hash;d@"/>` +
 		`</informationRequirement><literalExpression><text>1</text></literalExpression></decision>`
 	var all strings.Builder
@@ -134,7 +134,7 @@ func TestImportOfNoFiles(t *testing.T) {
 	}
 }
 
-// repeated is n parts with their number in them.
+// repeated returns n parts with their numbers in them.
 func repeated(n int, form string) string {
 	var all strings.Builder
 	for i := 0; i < n; i++ {
@@ -143,7 +143,7 @@ func repeated(n int, form string) string {
 	return all.String()
 }
 
-// TestHostileFiles has files that grow, nest or turn in circles: each is refused with status 3 and places.
+// TestHostileFiles has files that grow, nest or loop: each is refused with status 3 and places.
 func TestHostileFiles(t *testing.T) {
 	invoked := func(form string, n int) string {
 		var all strings.Builder
@@ -168,7 +168,7 @@ func TestHostileFiles(t *testing.T) {
 			`<knowledgeRequirement><requiredKnowledge href="#f"/></knowledgeRequirement><literalExpression><text>[` + text +
 			strings.Repeat(",f(o)", 100_000) + `]</text></literalExpression></decision></definitions>`
 	}
-	// In the forms # stands for a number, so the sign of a reference is written as its entity.
+	// In the forms # is a number, so a reference's sign is written as its entity.
 	knowledge = strings.ReplaceAll(knowledge, `href="#`, `href="&#35;`)
 	knowledge = strings.ReplaceAll(knowledge, "&#35;", "&hash;")
 	build := func(form string, n int) string { return strings.ReplaceAll(invoked(form, n), "&hash;", "#") }
@@ -215,7 +215,7 @@ func TestHostileFiles(t *testing.T) {
 	}
 }
 
-// BenchmarkImport takes a file of 500 decisions, each a table that needs the one before it.
+// BenchmarkImport imports a file of 500 decisions, each a table that needs the one before it.
 func BenchmarkImport(b *testing.B) {
 	table := `<decision id="d#" name="decision #"><informationRequirement><requiredInput href="&hash;a"/></informationRequirement>` +
 		`<decisionTable><input><inputExpression typeRef="number"><text>a</text></inputExpression></input><output name="r"/>` +

@@ -28,7 +28,7 @@ func journalCommand() *cobra.Command {
 		verifyCommand(), findCommand(), showCommand(), exportJournalCommand())
 }
 
-// group is a command that only has commands.
+// group returns a command that only has commands.
 func group(name, short, long string, commands ...*cobra.Command) *cobra.Command {
 	c := &cobra.Command{Use: name + groupEnd, Short: short, Long: long, RunE: func(c *cobra.Command, words []string) error {
 		if len(words) == 0 {
@@ -45,13 +45,13 @@ func group(name, short, long string, commands ...*cobra.Command) *cobra.Command 
 	return c
 }
 
-// isGroup says whether a command only has commands.
+// isGroup reports whether a command only has commands.
 func isGroup(c *cobra.Command) bool { return strings.HasSuffix(c.Use, groupEnd) }
 
 // groupEnd ends the usage of a group.
 const groupEnd = " COMMAND"
 
-// folderOf is the one folder that a command takes first, of so many words.
+// folderOf returns the folder that a command takes first, of count words.
 func folderOf(c *cobra.Command, words []string, count int) (string, error) {
 	if len(words) != count {
 		return "", wrong("%s is due", usageOf(c))
@@ -115,7 +115,7 @@ func writeVerified(to io.Writer, report *journal.Report, took time.Duration) err
 	return err
 }
 
-// filterFlags adds the options that say which cases are wanted.
+// filterFlags adds the options that select cases.
 func filterFlags(flags *pflag.FlagSet, filter *record.Filter) {
 	flags.StringVar(&filter.Client, "client", "", "Want this `NAME`, of X-Client or of a token")
 	flags.StringVar(&filter.Service, "service", "", "Want the service of this `NAME`")
@@ -144,7 +144,7 @@ of their file. The status is 1 if nothing is found.`,
 		if err != nil {
 			return err
 		}
-		ctx, stop := untilTold(c)
+		ctx, stop := untilStopped(c)
 		defer stop()
 		count, err := writeCases(ctx, c.OutOrStdout(), folder, filter)
 		if err == nil && count == 0 {
@@ -156,7 +156,7 @@ of their file. The status is 1 if nothing is found.`,
 	return c
 }
 
-// writeCases writes cases as lines of JSON, and says how many.
+// writeCases writes cases as lines of JSON, and reports their number.
 func writeCases(ctx context.Context, w io.Writer, folder string, filter record.Filter) (count int, err error) {
 	asker, err := newAsker()
 	if err != nil {
@@ -202,7 +202,7 @@ func exportJournalCommand() *cobra.Command {
 		if err != nil {
 			return err
 		}
-		ctx, stop := untilTold(c)
+		ctx, stop := untilStopped(c)
 		defer stop()
 		if !isCSV {
 			_, err = writeCases(ctx, c.OutOrStdout(), folder, filter)
@@ -213,7 +213,7 @@ func exportJournalCommand() *cobra.Command {
 	return c
 }
 
-// caseColumns are the columns of CSV before those of inputs.
+// caseColumns are the CSV columns before those of inputs.
 var caseColumns = []string{"entry", "id", "request", "time", "token", "client", "service", "name", "version", "release", "program",
 	"engine", "result", "problem", "rules", "redacted"}
 
@@ -247,7 +247,7 @@ func writeCSV(ctx context.Context, w io.Writer, folder string, filter record.Fil
 	return to.Error()
 }
 
-// caseRow is a case as a row of CSV.
+// caseRow returns a case as a CSV row.
 func caseRow(it *record.Case, inputs []string) []string {
 	problem := ""
 	if it.Problem != nil {
@@ -260,7 +260,7 @@ func caseRow(it *record.Case, inputs []string) []string {
 	row := []string{entry, it.ID, it.Request, it.Time, it.Token, it.Client, it.Service, it.Name, it.Version, it.Release, it.Program,
 		it.Engine, cell(it.Result), problem, ruleText(it), strings.Join(it.Redacted, " ")}
 	var members map[string]json.RawMessage
-	// Inputs that are no object have no members.
+	// Inputs that are not an object have no members.
 	_ = json.Unmarshal(it.Inputs, &members)
 	for _, name := range inputs {
 		row = append(row, cell(members[name]))
@@ -268,7 +268,7 @@ func caseRow(it *record.Case, inputs []string) []string {
 	return row
 }
 
-// cell is a value in a cell: a text without its quotes.
+// cell returns a value as a cell: a text without its quotes.
 func cell(value json.RawMessage) string {
 	var text string
 	if len(value) > 0 && value[0] == '"' && json.Unmarshal(value, &text) == nil {
@@ -310,7 +310,7 @@ journal. What was redacted isn't. The status is 1 if the release of then comes t
 		if err != nil {
 			return err
 		}
-		ctx, stop := untilTold(c)
+		ctx, stop := untilStopped(c)
 		defer stop()
 		s := &showing{command: c, to: c.OutOrStdout()}
 		if s.asker, err = newAsker(); err != nil {
@@ -337,7 +337,7 @@ type showing struct {
 	differs     bool
 }
 
-// mostShown is how many cases are shown at once.
+// mostShown limits the cases shown at once.
 const mostShown = 100
 
 func (s *showing) show(ctx context.Context, folder, id string) error {
@@ -420,7 +420,7 @@ func writeRules(to io.Writer, rules []record.Rule) {
 	}
 }
 
-// again decides a case again, and says whether it comes to the same.
+// again decides a case again, and reports whether the outcome is the same.
 func (s *showing) again(ctx context.Context, it *record.Case) error {
 	if !it.CanDecide() {
 		_, err := fmt.Fprintln(s.to, "  now       not decided again: an input is redacted, or no engine answered it")
@@ -450,7 +450,7 @@ func (s *showing) again(ctx context.Context, it *record.Case) error {
 	return nil
 }
 
-// alike says what a decision is beside the answer of then.
+// alike compares a decision with the recorded answer, in words.
 func alike(now *record.Decision, then *record.Case) (string, bool) {
 	if then.Result == nil && then.Problem == nil {
 		return now.String() + " (no answer was recorded)", true

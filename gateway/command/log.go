@@ -19,7 +19,7 @@ const (
 	logJSON = "json"
 )
 
-// setLog has a service log in this form.
+// setLog sets the form of a service's log.
 func setLog(options *service.Options, to io.Writer, form string) error {
 	switch form {
 	case logText:
@@ -33,7 +33,7 @@ func setLog(options *service.Options, to io.Writer, form string) error {
 	return nil
 }
 
-// A lineLog writes lines of JSON, each whole.
+// A lineLog writes whole lines of JSON.
 type lineLog struct {
 	mu sync.Mutex
 	to io.Writer
@@ -42,7 +42,7 @@ type lineLog struct {
 func (l *lineLog) write(line []byte) {
 	l.mu.Lock()
 	defer l.mu.Unlock()
-	// A log that nobody reads any more ends no service.
+	// A log without a reader ends no service.
 	_, _ = l.to.Write(line)
 }
 

@@ -26,7 +26,7 @@ func manualCommand() *cobra.Command {
 	}
 }
 
-// writeManual writes a page of man(7) from the help of all commands.
+// writeManual writes a man(7) page from the help of all commands.
 func writeManual(to io.Writer, root *cobra.Command) error {
 	page := bufio.NewWriter(to)
 	fmt.Fprintf(page, ".\\\" Written by desk manual.\n.TH DESK 1 \"\" \"desk %s\" \"User Commands\"\n", version)
@@ -63,7 +63,7 @@ func writeManualOf(to io.Writer, c *cobra.Command) {
 	}
 }
 
-// roffOptions describes options. Each command has --help, which is described once.
+// roffOptions describes options. Every command has --help, which is described once.
 func roffOptions(flags *pflag.FlagSet, hasHelp bool) string {
 	var text strings.Builder
 	flags.VisitAll(func(f *pflag.Flag) {
@@ -83,7 +83,7 @@ func roffOptions(flags *pflag.FlagSet, hasHelp bool) string {
 	return text.String()
 }
 
-// roffText writes text with paragraphs; lines that begin with blanks are kept as they are.
+// roffText writes text with paragraphs; lines that begin with blanks are kept.
 func roffText(text string) string {
 	var page strings.Builder
 	isKept := false
@@ -105,7 +105,7 @@ func roffText(text string) string {
 	return strings.TrimSuffix(page.String(), ".PP\n")
 }
 
-// roffLine is a line that is no request of roff.
+// roffLine returns a line that roff doesn't take for a request.
 func roffLine(line string) string {
 	line = roff(line)
 	if strings.HasPrefix(line, ".") || strings.HasPrefix(line, "'") {
@@ -114,7 +114,7 @@ func roffLine(line string) string {
 	return line
 }
 
-// roff escapes what roff reads in another way.
+// roff escapes what roff would interpret.
 func roff(text string) string {
 	return strings.NewReplacer(`\`, `\e`, "-", `\-`, "^", `\(ha`, `"`, `\(dq`, "~", `\(ti`).Replace(strings.TrimSuffix(text, "\n"))
 }
@@ -127,7 +127,7 @@ order of its requests. An engine evaluates, a proved program of its own.
 
 Where a command reads a file, - stands for standard input.`
 
-// manualRest is what the page has beyond the help.
+// manualRest is what the page has besides the help.
 const manualRest = `.SH ENVIRONMENT
 .TP
 .B DESK_ENGINE

@@ -28,7 +28,7 @@ ops/rabbitmq/README.md describes the protocol, settings and alarms.`
 // metricsHelp describes --metrics of send, partition and receive.
 const metricsHelp = "Serve /metrics, /healthz and /readyz at this `ADDRESS`, as 127.0.0.1:9100"
 
-// serveMetrics serves them at an address, if there is one.
+// serveMetrics serves metrics at an address, if there is one.
 func serveMetrics(ctx context.Context, address string, of metrics.Source) error {
 	if address == "" {
 		return nil
@@ -47,7 +47,7 @@ type partitionOptions struct {
 	declare  bool
 }
 
-// leastMemory is how many bytes of address space an engine needs at least: it takes some for itself.
+// leastMemory is the least address space of an engine in bytes, as it needs some itself.
 const leastMemory = 32 << 20
 
 func partitionCommand() *cobra.Command {
@@ -92,7 +92,7 @@ func runRepair(c *cobra.Command, text string, epoch int64) error {
 	if err != nil {
 		return wrong("%w", err)
 	}
-	ctx, stop := untilTold(c)
+	ctx, stop := untilStopped(c)
 	defer stop()
 	scale, err := bus.StartWatch(ctx, on, partitionLog(c), "desk partition repair", settings)
 	if err != nil {
@@ -114,7 +114,7 @@ func runRepair(c *cobra.Command, text string, epoch int64) error {
 	return nil
 }
 
-// repairOf says what is repaired: a partition of the newest number of them, or of the epoch that is given.
+// repairOf returns what is repaired: a partition of the newest number, or of the given epoch.
 func repairOf(known bus.Scaling, text string, epoch int64) (repair broker.Repair, err error) {
 	last := int64(len(known.All) - 1)
 	if epoch < 0 {
@@ -157,7 +157,7 @@ func runRescale(c *cobra.Command, text string) error {
 	if err != nil {
 		return wrong("%w", err)
 	}
-	ctx, stop := untilTold(c)
+	ctx, stop := untilStopped(c)
 	defer stop()
 	options := rescaling(c, on)
 	options.To = number
@@ -169,7 +169,7 @@ func runRescale(c *cobra.Command, text string) error {
 	return nil
 }
 
-// rescaling is how the number of partitions is changed, or declared.
+// rescaling returns how the number of partitions is changed, or declared.
 func rescaling(c *cobra.Command, on broker.Broker) rescale.Options {
 	log := partitionLog(c)
 	return rescale.Options{Bus: on, Log: log, Leave: on.Leave, Declare: func(ctx context.Context, settings bus.Settings) error {
@@ -177,10 +177,10 @@ func rescaling(c *cobra.Command, on broker.Broker) rescale.Options {
 	}}
 }
 
-// partitionLog is the log of desk partition.
+// partitionLog returns the log of desk partition.
 func partitionLog(c *cobra.Command) *logs.Log { return logs.New(c.ErrOrStderr(), "desk partition") }
 
-// check reports a number that is out of its range.
+// check returns an error for a number out of range.
 func (o *partitionOptions) check() error {
 	switch {
 	case o.engine.Workers < 1 || o.engine.Workers > 8:
@@ -206,7 +206,7 @@ func runPartition(c *cobra.Command, o partitionOptions) error {
 	if err != nil {
 		return wrong("%w", err)
 	}
-	ctx, stop := untilTold(c)
+	ctx, stop := untilStopped(c)
 	defer stop()
 	if o.declare {
 		return declare(ctx, c, on, settings)

@@ -6,7 +6,7 @@ import (
 	"testing"
 )
 
-// TestDefaultOfProcesses has as many engines as processors, and no more than may be asked for.
+// TestDefaultOfProcesses expects as many engines as processors, up to the limit.
 func TestDefaultOfProcesses(t *testing.T) {
 	for processors, due := range map[int]int{1: 1, 4: 4, 64: 64, 65: 64, 1024: 64} {
 		if got := enginesFor(processors); got != due {

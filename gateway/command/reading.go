@@ -12,13 +12,13 @@ import (
 	"gateway/profile"
 )
 
-// readingFlags adds the options that say what of files of DMN is translated, and how.
+// readingFlags adds the options for what is translated of DMN files, and how.
 func readingFlags(flags *pflag.FlagSet, options *profile.Options) {
 	flags.StringVar(&options.Service, "service", "", "Make the service of this `NAME` alone: a decision service or a decision")
 	translationFlags(flags, options)
 }
 
-// translationFlags adds the options that say how files of DMN are translated.
+// translationFlags adds the options for how DMN files are translated.
 func translationFlags(flags *pflag.FlagSet, options *profile.Options) {
 	flags.BoolVar(&options.Partial, "partial", false, "Make the services that need no refused place, and report the others")
 	flags.BoolVar(&options.FreeInputs, "free-inputs", false,
@@ -31,7 +31,7 @@ func translationFlags(flags *pflag.FlagSet, options *profile.Options) {
 		"Applicant.Income=2; may come several times (default 2 where fractions meet them)")
 }
 
-// clock says in which zone the clock is.
+// A clock is the option for the clock's zone.
 type clock struct{ options *profile.Options }
 
 func (c clock) String() string { return c.options.Clock }
@@ -46,7 +46,7 @@ func (c clock) Set(zone string) error {
 	return nil
 }
 
-// offsets says which times of inputs have an offset.
+// An offsets is the option for times of inputs with an offset.
 type offsets struct{ options *profile.Options }
 
 func (o offsets) String() string { return "" }
@@ -61,7 +61,7 @@ func (o offsets) Set(name string) error {
 	return nil
 }
 
-// decimals says how many decimals the numbers of inputs have.
+// A decimals is the option for the decimals of inputs.
 type decimals struct{ options *profile.Options }
 
 func (d decimals) String() string { return "" }

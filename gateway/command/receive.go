@@ -41,7 +41,7 @@ func receiveCommand() *cobra.Command {
 	return c
 }
 
-// Where a receiver begins, beside a time.
+// Where a receiver begins, besides a time.
 const (
 	fromFirst = "first"
 	fromNext  = "next"
@@ -84,7 +84,7 @@ func runReceive(c *cobra.Command, o receiveOptions) error {
 		defer file.Close()
 		options.Output, options.File = file, true
 	}
-	ctx, stop := untilTold(c)
+	ctx, stop := untilStopped(c)
 	defer stop()
 	if err := serveMetrics(ctx, o.metrics, options.Gauges); err != nil {
 		return err

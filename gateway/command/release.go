@@ -31,7 +31,7 @@ A release is a file that is never changed.`,
 		listReleases(), putRelease(), tryRelease(), activateRelease(), backRelease())
 }
 
-// said is what is said of a change.
+// A said is what is said about a change.
 type said struct{ who, why string }
 
 func (s *said) add(flags *pflag.FlagSet) {
@@ -39,7 +39,7 @@ func (s *said) add(flags *pflag.FlagSet) {
 	flags.StringVar(&s.why, "why", "", "Say why")
 }
 
-// name is who does it.
+// name returns who does it.
 func (s *said) name() string {
 	if s.who != "" {
 		return s.who
@@ -60,7 +60,7 @@ type kept struct {
 	err error
 }
 
-// readKept reads the release of a file.
+// readKept reads a file's release.
 func readKept(folder, file string) (*service.Source, kept) {
 	it := kept{file: file}
 	text, err := os.ReadFile(filepath.Join(folder, file))
@@ -80,7 +80,7 @@ func readKept(folder, file string) (*service.Source, kept) {
 	return source, it
 }
 
-// called is a release by name and version, or by its file.
+// called returns a release's name and version, or its file.
 func (k *kept) called() string {
 	if name := strings.TrimSpace(k.Name + " " + k.Version); name != "" {
 		return name
@@ -100,10 +100,10 @@ func readAllKept(folder string) ([]kept, error) {
 	return all, nil
 }
 
-// leastSum is how many digits of a sum name a release at least.
+// leastSum is the least number of digits of a sum that name a release.
 const leastSum = 6
 
-// findKept finds the release of a folder that a word names: its file, its name and version, or the beginning of its sum.
+// findKept finds the release in a folder that a word names: its file, its name and version, or a prefix of its sum.
 func findKept(folder, word string) (kept, error) {
 	all, err := readAllKept(folder)
 	if err != nil {
@@ -169,7 +169,7 @@ func listReleases() *cobra.Command {
 	return c
 }
 
-// plain is a text on one line, without what a terminal would obey.
+// plain returns a text on one line, without terminal escapes.
 func plain(text string) string {
 	return strings.Map(func(r rune) rune {
 		if unicode.IsPrint(r) {
@@ -198,7 +198,7 @@ func putRelease() *cobra.Command {
 		if len(words) < 2 || it.Name == "" || it.Version == "" {
 			return wrong("a name, a version, a folder and a model are due: %s", usageOf(c))
 		}
-		ctx, stop := untilTold(c)
+		ctx, stop := untilStopped(c)
 		defer stop()
 		it.Who, it.Why, it.When = by.name(), by.why, now()
 		return reported(c.ErrOrStderr(), runPut(ctx, c, words[0], words[1:], it, reading))
@@ -241,7 +241,7 @@ const (
 	needsTried   = "tried"
 )
 
-// meets says why a release doesn't meet what is required, or nil. Where it was to be tried, it says against which file.
+// meets returns why a release doesn't meet the requirements, or nil; and the file that it was tried against, if that is required.
 func meets(ctx context.Context, folder string, it kept, required []string) (against string, err error) {
 	source, _ := readKept(folder, it.file)
 	for _, word := range required {
@@ -272,7 +272,7 @@ func meets(ctx context.Context, folder string, it kept, required []string) (agai
 	return against, nil
 }
 
-// checked says why check --tables --strict refuses a model, or nil.
+// checked returns why check --tables --strict refuses a model, or nil.
 func checked(ctx context.Context, it kept, model []byte) error {
 	path, err := engine.Path()
 	if err != nil {

@@ -10,11 +10,11 @@ import (
 	"gateway/tck"
 )
 
-// A caseReport takes the verdicts of tests as they come.
+// A caseReport takes the verdicts of tests one by one.
 type caseReport interface {
-	// add takes the verdict on one value of a file of cases.
+	// add takes the verdict on one value of a cases file.
 	add(file string, v tck.Verdict) error
-	// fault takes a row that can't be read, or a whole file, which has no place.
+	// fault takes an unreadable row, or a whole file, which has no place.
 	fault(file, place, why string) error
 	// end is called after the last.
 	end() error
@@ -36,13 +36,13 @@ func (c *verdictCounts) add(o tck.Outcome) {
 	}
 }
 
-// lineReport writes a line for each verdict, and how many there are; if isQuiet, no lines of those that passed.
+// lineReport writes a line for each verdict, and the counts; with isQuiet it skips passed ones.
 type lineReport struct {
 	verdictCounts
 	out     *bufio.Writer
 	to      io.Writer
 	isQuiet bool
-	// isCut says that a whole file can't be read.
+	// isCut means that a whole file can't be read.
 	isCut bool
 }
 
@@ -88,7 +88,7 @@ func newTAP(to io.Writer) *tapReport {
 	return r
 }
 
-// forTAP keeps the marks of TAP out of a text.
+// forTAP escapes TAP's signs in a text.
 var forTAP = strings.NewReplacer(`\`, `\\`, "#", `\#`, "\n", " ")
 
 func (r *tapReport) add(_ string, v tck.Verdict) error {
@@ -108,7 +108,7 @@ func (r *tapReport) add(_ string, v tck.Verdict) error {
 	return nil
 }
 
-// placed is a place in a file, or the file.
+// placed returns a place in a file, or the file.
 func placed(file, place string) string {
 	if place == "" {
 		return file
@@ -136,7 +136,7 @@ func (r *tapReport) end() error {
 	return nil
 }
 
-// A junitSuite is what JUnit reports of a file of cases.
+// A junitSuite is JUnit's report of a cases file.
 type junitSuite struct {
 	XMLName  xml.Name    `xml:"testsuite"`
 	Name     string      `xml:"name,attr"`
@@ -147,7 +147,7 @@ type junitSuite struct {
 	Cases    []junitCase `xml:"testcase"`
 }
 
-// A junitCase is a test. One of its parts is there where it did not pass.
+// A junitCase is a test. It has one of its parts if it did not pass.
 type junitCase struct {
 	Class   string      `xml:"classname,attr"`
 	Name    string      `xml:"name,attr"`
@@ -160,7 +160,7 @@ type junitCause struct {
 	Message string `xml:"message,attr"`
 }
 
-// junitReport writes JUnit's XML in the end.
+// junitReport writes JUnit's XML at the end.
 type junitReport struct {
 	to     io.WriteCloser
 	suites []*junitSuite
@@ -218,7 +218,7 @@ func (r *junitReport) end() error {
 	return r.to.Close()
 }
 
-// reports hands verdicts to several reports.
+// reports passes verdicts to several reports.
 type reports []caseReport
 
 func (all reports) add(file string, v tck.Verdict) error {

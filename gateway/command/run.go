@@ -27,7 +27,7 @@ type rowsOptions struct {
 	separator string
 	encoding  string
 	files     cases.Options
-	reading   profile.Options // of a file of DMN
+	reading   profile.Options // for a DMN file
 	processes int
 	deadline  duration
 	memory    size
@@ -41,7 +41,7 @@ type runOptions struct {
 	misses                bool
 }
 
-// add adds the options to those of a command.
+// add adds the options to a command's.
 func (o *rowsOptions) add(flags *pflag.FlagSet) {
 	o.deadline, o.memory = duration(20*time.Second), 1<<30
 	flags.BoolVar(&o.files.Comma, "comma", false, "Numbers of CSV have a decimal comma")
@@ -54,14 +54,14 @@ func (o *rowsOptions) add(flags *pflag.FlagSet) {
 	translationFlags(flags, &o.reading)
 }
 
-// readModel reads the model of a command. What a file of DMN leaves out is reported on standard error.
+// readModel reads a command's model. What is left out of a DMN file is reported on standard error.
 func (o *rowsOptions) readModel(c *cobra.Command, path string) (*service.Source, error) {
 	reading := o.reading
 	reading.Service = o.service
 	return readModel(c, []string{path}, reading, func(form string, words ...any) { c.PrintErrf(form+"\n", words...) })
 }
 
-// check refuses options that are out of range.
+// check refuses options out of range.
 func (o *rowsOptions) check() error {
 	options := service.Options{Processes: o.processes, Deadline: time.Duration(o.deadline), Memory: uint64(o.memory), ClientLimit: 1, Limit: 1,
 		AddressLimit: 1, JournalSize: 256 << 20}
@@ -117,14 +117,14 @@ A row that can't be read is reported with its place, and the others go on; the s
 		if err := options.check(); err != nil {
 			return err
 		}
-		ctx, stop := untilTold(c)
+		ctx, stop := untilStopped(c)
 		defer stop()
 		return reported(c.ErrOrStderr(), runRows(ctx, c, paths, options))
 	}
 	return c
 }
 
-// runRows answers the rows of a file.
+// runRows answers a file's rows.
 func runRows(ctx context.Context, c *cobra.Command, paths []string, o runOptions) (err error) {
 	rows, err := openRows(ctx, c, paths, &o.rowsOptions, func(s *cases.Subject) (*cases.Question, error) { return s.Question(o.service) })
 	if err != nil {
@@ -150,15 +150,15 @@ func runRows(ctx context.Context, c *cobra.Command, paths []string, o runOptions
 	return answerRows(ctx, c, rows, plan, writer, written, o)
 }
 
-// answerRows writes each row with its answer, and reports those that have none.
+// answerRows writes each row with its answer, and reports those without.
 func answerRows(ctx context.Context, c *cobra.Command, rows *rowsFile, plan *cases.Plan, writer rowWriter, to io.Writer, o runOptions) error {
 	asker := o.asker(c, rows.engine)
 	asker.Explain, asker.Tells, asker.Misses = o.explain && !o.text, o.text, o.misses && o.text
-	told, room := &refusals{to: c.ErrOrStderr(), file: rows.source.name}, writer.Begin(nil)
+	unanswered, room := &refusals{to: c.ErrOrStderr(), file: rows.source.name}, writer.Begin(nil)
 	shown := rows.progress(c, "running", o.output != "" && o.output != dash)
 	defer shown.stop()
 	err := asker.Each(ctx, plan, rows.asked, func(row *cases.Row, answer *cases.Answer) error {
-		told.add(row, answer)
+		unanswered.add(row, answer)
 		if o.strict && answer.IsRefused {
 			return errStopped
 		}
@@ -174,7 +174,7 @@ func answerRows(ctx context.Context, c *cobra.Command, rows *rowsFile, plan *cas
 	if _, err := to.Write(writer.End(room)); err != nil {
 		return err
 	}
-	return told.end()
+	return unanswered.end()
 }
 
 // A rowWriter writes rows with their answers.
@@ -196,13 +196,13 @@ func (o *runOptions) writer(rows *rowsFile, plan *cases.Plan) (rowWriter, error)
 	return &textWriter{rows: tell.RowsOf(written)}, nil
 }
 
-// A textWriter writes how answers came about, as texts.
+// A textWriter writes explanations of answers as text.
 type textWriter struct{ rows *tell.Rows }
 
-// Begin is empty.
+// Begin adds nothing.
 func (*textWriter) Begin(to []byte) []byte { return to }
 
-// End is empty.
+// End adds nothing.
 func (*textWriter) End(to []byte) []byte { return to }
 
 // Row adds the text of an answer, or why there is none. What can't be worded is added as it is.
@@ -223,7 +223,7 @@ func (w *textWriter) Row(to []byte, row *cases.Row, answer *cases.Answer) []byte
 // errStopped ends a run at a row.
 var errStopped = errors.New("stopped at a row that can't be read")
 
-// firstOf is the first of some errors.
+// firstOf returns the first error.
 func firstOf(errs ...error) error {
 	for _, err := range errs {
 		if err != nil {
@@ -233,7 +233,7 @@ func firstOf(errs ...error) error {
 	return nil
 }
 
-// A rowsFile is an open file of rows with the model that it asks.
+// A rowsFile is an open file of rows with its model.
 type rowsFile struct {
 	*cases.File
 	source   *source
@@ -245,7 +245,7 @@ type rowsFile struct {
 
 func (r *rowsFile) Close() error { return r.source.Close() }
 
-// openRows reads a model, and opens a file of rows that asks it something.
+// openRows reads a model, and opens a file of rows for it.
 func openRows(ctx context.Context, c *cobra.Command, paths []string, o *rowsOptions,
 	question func(*cases.Subject) (*cases.Question, error)) (*rowsFile, error) {
 	if err := oneStdin(paths); err != nil {
@@ -283,7 +283,7 @@ func openRows(ctx context.Context, c *cobra.Command, paths []string, o *rowsOpti
 	return rows, nil
 }
 
-// refusedForm is the failure of a file that is none of rows.
+// refusedForm returns the failure of a file without rows.
 func refusedForm(err error) error {
 	if errors.Is(err, cases.ErrForm) {
 		return refused(err)
@@ -301,7 +301,7 @@ func (r *rowsFile) plan(isRun bool) (*cases.Plan, error) {
 	return plan, err
 }
 
-// progress shows how much of the file is read, but where results go to the terminal.
+// progress shows how much of the file is read, unless results go to the terminal.
 func (r *rowsFile) progress(c *cobra.Command, what string, isElsewhere bool) *progress {
 	total := int64(0)
 	if r.source.file != nil {
@@ -322,7 +322,7 @@ func (o *rowsOptions) asker(c *cobra.Command, path string) *cases.Asker {
 		}}
 }
 
-// createOutput makes the file of the results, which is none of those that are read.
+// createOutput makes the file of the results, which must not be one of those read.
 func createOutput(c *cobra.Command, path string, read []string) (io.Writer, error) {
 	if path == "" || path == dash {
 		return c.OutOrStdout(), nil
@@ -341,7 +341,7 @@ func createOutput(c *cobra.Command, path string, read []string) (io.Writer, erro
 	return file, nil
 }
 
-// closed closes a file that is not the standard output.
+// closed closes a file, unless it is standard output.
 func closed(out io.Writer) error {
 	if file, is := out.(*os.File); is && file != os.Stdout {
 		return file.Close()
@@ -349,10 +349,10 @@ func closed(out io.Writer) error {
 	return nil
 }
 
-// mostTold is how many rows are reported that have no answer.
-const mostTold = 100
+// mostReported limits the reported rows without an answer.
+const mostReported = 100
 
-// refusals reports rows that have no answer.
+// refusals reports rows without an answer.
 type refusals struct {
 	to                    io.Writer
 	file                  string
@@ -368,7 +368,7 @@ func (r *refusals) add(row *cases.Row, answer *cases.Answer) {
 	default:
 		return
 	}
-	if r.count+r.failed > mostTold {
+	if r.count+r.failed > mostReported {
 		r.silent++
 		return
 	}
@@ -379,7 +379,7 @@ func (r *refusals) add(row *cases.Row, answer *cases.Answer) {
 	fmt.Fprintf(r.to, "%s:%d: %s\n", r.file, row.Line, answer.Fault)
 }
 
-// end reports how many rows have no answer, and gives the status.
+// end reports how many rows have no answer, and returns the status.
 func (r *refusals) end() error {
 	if r.count+r.failed == 0 {
 		return nil

@@ -44,7 +44,7 @@ can't be reached, the lines of the others are sent; the status is then 1, and th
 	return c
 }
 
-// check reports a name or an id that can't be one.
+// check returns an error for an invalid name or id.
 func (o sendOptions) check() error {
 	switch {
 	case o.batch != "" && (o.sender == "" || !bus.IsBatch(o.batch)):
@@ -72,7 +72,7 @@ func runSend(c *cobra.Command, o sendOptions) error {
 		return err
 	}
 	collectSeldom()
-	ctx, stop := untilTold(c)
+	ctx, stop := untilStopped(c)
 	defer stop()
 	options.Check = func(model []byte) error { return checkBeforeSending(ctx, path, model) }
 	if err := nameBatch(c, &options); err != nil {
@@ -108,7 +108,7 @@ func nameBatch(c *cobra.Command, options *sender.Options) (err error) {
 	return nil
 }
 
-// lookAtScale finds out how many partitions there are, and were; the settings say it where the brokers don't.
+// lookAtScale finds the present and earlier numbers of partitions, from the settings if the brokers don't have them.
 func lookAtScale(ctx context.Context, options *sender.Options, settings bus.Settings) error {
 	scale, err := bus.StartWatch(ctx, options.Bus, options.Log, "desk send, "+options.Name, settings)
 	if err != nil {

@@ -11,7 +11,7 @@ import (
 	"gateway/rabbit/bus"
 )
 
-// An until is written to until it has a text, and says so then.
+// An until is written to until it has a text, and then closes its channel.
 type until struct {
 	bytes.Buffer
 	found func(text string) bool
@@ -27,7 +27,7 @@ func (u *until) Write(text []byte) (int, error) {
 	return u.Buffer.Write(text)
 }
 
-var told = regexp.MustCompile(`(?m)^desk send: batch ([0-9a-f]{32})$`)
+var reportedBatch = regexp.MustCompile(`(?m)^desk send: batch ([0-9a-f]{32})$`)
 
 // A named sender whose batch has no id gives it a new one each time, and reports it.
 func TestABatchWithoutAnIDIsGivenOne(t *testing.T) {
@@ -38,14 +38,14 @@ func TestABatchWithoutAnIDIsGivenOne(t *testing.T) {
 	ids := map[string]bool{}
 	for range []int{1, 2} {
 		ctx, stop := context.WithCancel(context.Background())
-		said := &until{found: told.MatchString, then: stop}
+		said := &until{found: reportedBatch.MatchString, then: stop}
 		root := newRoot()
 		root.SetArgs([]string{"send", "--sender", "a"})
 		root.SetIn(&bytes.Buffer{})
 		root.SetOut(io.Discard)
 		root.SetErr(said)
 		root.ExecuteContext(ctx)
-		if id := told.FindStringSubmatch(said.String()); id != nil {
+		if id := reportedBatch.FindStringSubmatch(said.String()); id != nil {
 			ids[id[1]] = true
 		}
 	}
@@ -54,7 +54,7 @@ func TestABatchWithoutAnIDIsGivenOne(t *testing.T) {
 	}
 }
 
-// A name is known for ninety days without --sender-days.
+// A name is remembered for ninety days without --sender-days.
 func TestSenderDays(t *testing.T) {
 	c, _, err := newRoot().Find([]string{"partition"})
 	if err != nil {

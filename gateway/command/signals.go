@@ -14,7 +14,7 @@ var inherited [65]uintptr
 
 const ignored = 1
 
-// keepIgnored ignores the signals again that were ignored at the start, for the program that is to take this one's place.
+// keepIgnored ignores the signals again that were ignored at the start, for the program that replaces this one.
 func keepIgnored() {
 	for number, action := range inherited {
 		if action == ignored {

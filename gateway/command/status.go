@@ -8,7 +8,7 @@ import (
 	"gateway/engine"
 )
 
-// Exit statuses, the same for every command. replay and serve end with the engine's own, which are the first three.
+// Exit statuses, the same for every command. replay and serve end with the engine's, which are the first three.
 const (
 	statusDone = iota
 	statusFault
@@ -30,7 +30,7 @@ const statusHelp = `Status:
 // A failure ends a command with a status.
 type failure struct {
 	status int
-	// err is nil where everything has been reported.
+	// err is nil if everything has been reported.
 	err error
 }
 
@@ -43,7 +43,7 @@ func (f *failure) Error() string {
 
 func (f *failure) Unwrap() error { return f.err }
 
-// ended is the failure of a command that has reported why.
+// ended returns the failure of a command that has reported why.
 func ended(status int) error {
 	if status == statusDone {
 		return nil
@@ -51,15 +51,15 @@ func ended(status int) error {
 	return &failure{status: status}
 }
 
-// wrong is the failure of a wrong command line.
+// wrong returns the failure of a wrong command line.
 func wrong(form string, words ...any) error {
 	return &failure{statusUsage, fmt.Errorf(form, words...)}
 }
 
-// refused is the failure of a model or another file that has faults.
+// refused returns the failure of a faulty model or other file.
 func refused(err error) error { return &failure{statusRefused, err} }
 
-// statusOf is the exit status of an error.
+// statusOf returns the exit status of an error.
 func statusOf(err error) int {
 	var known *failure
 	switch {
@@ -73,7 +73,7 @@ func statusOf(err error) int {
 	return statusFault
 }
 
-// isUnopened reports whether an error is that of a file or folder that could not be opened.
+// isUnopened reports whether an error means that a file or folder could not be opened.
 func isUnopened(err error) bool {
 	var path *fs.PathError
 	if !errors.As(err, &path) {

@@ -13,16 +13,16 @@ import (
 	"gateway/tck"
 )
 
-// A caseGroup are test cases of XML that ask for the same decisions, and bring values of the same ones.
+// A caseGroup holds XML test cases that ask for the same decisions and bring values of the same ones.
 type caseGroup struct {
 	outputs, given []string
 	rows           [][]byte
-	// of are the places of the cases in their file.
+	// of has the indexes of the cases in their file.
 	of []int
 }
 
-// caseRules asks for the rules that decided test cases of XML: of all where the reached rules are counted, else of those that failed.
-// It gives them by the places of the cases; of a case that the whole model doesn't take there are none.
+// caseRules asks for the rules that decided XML test cases: all if reached rules are counted, else failed ones. It returns them
+// by the index of the case; a case that the whole model doesn't take has none.
 func caseRules(ctx context.Context, c *cobra.Command, path string, all *tck.Cases, verdicts []tck.Verdict, o casesOptions) (map[int]string, error) {
 	wanted := wantedCases(all, verdicts, o.counts != nil)
 	if len(wanted) == 0 {
@@ -47,7 +47,7 @@ func caseRules(ctx context.Context, c *cobra.Command, path string, all *tck.Case
 	return rules, nil
 }
 
-// wantedCases are the places of the cases that are asked about.
+// wantedCases returns the indexes of the wanted cases.
 func wantedCases(all *tck.Cases, verdicts []tck.Verdict, isCounted bool) (wanted []int) {
 	next := 0
 	for at := range all.Cases {
@@ -63,7 +63,7 @@ func wantedCases(all *tck.Cases, verdicts []tck.Verdict, isCounted bool) (wanted
 	return wanted
 }
 
-// groupsOf are cases in groups, in the order of their first ones.
+// groupsOf returns cases in groups, ordered by their first cases.
 func groupsOf(s *cases.Subject, all *tck.Cases, wanted []int) (groups []*caseGroup) {
 	byKey := map[string]*caseGroup{}
 	for _, at := range wanted {
@@ -84,7 +84,7 @@ func groupsOf(s *cases.Subject, all *tck.Cases, wanted []int) (groups []*caseGro
 	return groups
 }
 
-// asksFor are the words of the decisions that a case asks for, and of those whose values it brings.
+// asksFor returns the words of the decisions that a case asks for, and of those whose values it brings.
 func asksFor(s *cases.Subject, c *tck.Case) (outputs, given []string) {
 	seen := map[string]bool{}
 	for _, result := range c.Results {
@@ -104,7 +104,7 @@ func asksFor(s *cases.Subject, c *tck.Case) (outputs, given []string) {
 	return outputs, given
 }
 
-// ask asks for the rules of the cases of a group, and counts what they reach.
+// ask asks for the rules of a group's cases, and counts what they reach.
 func (g *caseGroup) ask(ctx context.Context, c *cobra.Command, subject *cases.Subject, o casesOptions, rules map[int]string) error {
 	program, err := engine.Path()
 	if err != nil {

@@ -21,14 +21,14 @@ func isTerminal(stream io.Writer) bool {
 	return err == nil
 }
 
-// Colours, as terminals know them.
+// ANSI colours.
 const (
 	red    = "31"
 	green  = "32"
 	yellow = "33"
 )
 
-// painted is a text in a colour, where the stream is a terminal and the environment variable NO_COLOR is not set.
+// painted returns a text in a colour, if the stream is a terminal and the environment variable NO_COLOR is not set.
 func painted(stream io.Writer, colour, text string) string {
 	if os.Getenv("NO_COLOR") != "" || !isTerminal(stream) {
 		return text
@@ -37,17 +37,17 @@ func painted(stream io.Writer, colour, text string) string {
 }
 
 const (
-	// progressAfter is how long a run is until its progress is shown, progressEvery how often that changes.
+	// progressAfter is the time until progress is shown, progressEvery the time between updates.
 	progressAfter = time.Second
 	progressEvery = 200 * time.Millisecond
 	eraseLine     = "\r\x1b[K"
 )
 
-// A progress shows on a terminal how far a long run is. Its methods do nothing where there is none.
+// A progress shows the progress of a long run on a terminal. On other streams its methods do nothing.
 type progress struct {
 	to   io.Writer
 	what string
-	// done is how much is done by now, of total in these units; total 0 is not known.
+	// done is how much is done, of total in these units; total 0 means unknown.
 	done  func() int64
 	total int64
 	unit  unit
@@ -57,10 +57,10 @@ type progress struct {
 	once  sync.Once
 }
 
-// A unit is what a progress counts.
+// A unit is the unit of a progress.
 type unit struct {
 	name string
-	// size is how many of the counted things are one.
+	// size is how many counted things are one unit.
 	size float64
 }
 
@@ -69,7 +69,7 @@ var (
 	files     = unit{"files", 1}
 )
 
-// showProgress shows progress until it is stopped; nil where the stream is no terminal.
+// showProgress shows progress until it is stopped; nil if the stream is no terminal.
 func showProgress(to io.Writer, what string, of unit, total int64, done func() int64) *progress {
 	if !isTerminal(to) {
 		return nil
@@ -110,7 +110,7 @@ func (p *progress) run() {
 	}
 }
 
-// line says what is done, how fast, and how long it takes yet.
+// line says what is done, how fast, and how long the rest takes.
 func (p *progress) line(done int64, passed time.Duration) string {
 	var text strings.Builder
 	fmt.Fprintf(&text, "%s: %s", p.what, p.amount(done))
@@ -133,8 +133,8 @@ func (p *progress) amount(n int64) string {
 	return fmt.Sprintf("%.1f", float64(n)/p.unit.size)
 }
 
-// readProgress shows how much of a file has been read, by whichever process: they share its offset. It is nil where the
-// input is no regular file, or where output comes to the same terminal.
+// readProgress shows how much of a file has been read, by any process, as they share its offset. It is nil if the input is not
+// a regular file, or if output goes to the same terminal.
 func readProgress(errs, out io.Writer, what string, input *source) *progress {
 	file, is := input.Reader.(*os.File)
 	if !is || isTerminal(out) {

@@ -15,7 +15,7 @@ import (
 	"gateway/service"
 )
 
-// tlsFiles are those of the certificates of connections.
+// tlsFiles are the files of a server's certificates.
 type tlsFiles struct{ cert, key, clientCA string }
 
 func (t *tlsFiles) add(flags *pflag.FlagSet) {
@@ -45,7 +45,7 @@ func (t *tlsFiles) read() (*tls.Config, error) {
 	return config, nil
 }
 
-// setTLS has the service speak TLS where it is to. Each connection has the certificates that were read last.
+// setTLS sets up TLS, if requested. Each connection uses the certificates read last.
 func setTLS(options *service.Options, files tlsFiles) error {
 	if (files.cert == "") != (files.key == "") || files.cert == "" && files.clientCA != "" {
 		return wrong("TLS needs --tls-cert and --tls-key")
@@ -70,7 +70,7 @@ func setTLS(options *service.Options, files tlsFiles) error {
 // unixStart begins the address of a unix socket.
 const unixStart = "unix:"
 
-// listenUnix listens at a file. One that an ended process left is removed.
+// listenUnix listens at a file. It removes one that an ended process left.
 func listenUnix(path string) (net.Listener, error) {
 	listener, err := net.Listen("unix", path)
 	if !errors.Is(err, syscall.EADDRINUSE) {

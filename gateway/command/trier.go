@@ -10,7 +10,7 @@ import (
 	"gateway/service"
 )
 
-// A trier holds two models against each other for the service over HTTP.
+// A trier compares two models for the service over HTTP.
 type trier struct {
 	path     string
 	memory   uint64
@@ -18,7 +18,7 @@ type trier struct {
 	patience time.Duration
 }
 
-// Changes has what differs between the models.
+// Changes returns the differences between the models.
 func (t *trier) Changes(old, new *service.Source) (json.RawMessage, error) {
 	changes, err := compare.Models(old, new)
 	if err != nil {
@@ -30,7 +30,7 @@ func (t *trier) Changes(old, new *service.Source) (json.RawMessage, error) {
 	return json.Marshal(changes)
 }
 
-// Try asks both for the requests of a journal.
+// Try asks both about the requests in a journal.
 func (t *trier) Try(ctx context.Context, folder string, it *service.Trial) (*service.Tried, error) {
 	trial := &record.Trial{Asker: &record.Asker{Path: t.path, Memory: t.memory}, Old: it.Old, New: it.New, Asked: it.Asked, AtOnce: t.atOnce,
 		Patience: t.patience}

@@ -12,10 +12,10 @@ import (
 	"gateway/profile"
 )
 
-// A drawer makes random files of DMN that can be taken. Each expression is made for the type that is due where it stands.
+// A drawer makes random valid DMN files. Each expression is made for the type due at its place.
 type drawer struct {
 	*rand.Rand
-	// scope has the names in scope by their types.
+	// scope has the names in scope, by type.
 	scope map[string][]string
 	// parts are the elements of the file, needs what a decision may require.
 	parts []string
@@ -23,7 +23,7 @@ type drawer struct {
 	made  int
 }
 
-// Types of the files that are drawn.
+// Types of the generated files.
 const (
 	aNumber  = "number"
 	aText    = "string"
@@ -46,14 +46,14 @@ var forXML = strings.NewReplacer("&", "&amp;", "<", "&lt;", ">", "&gt;", `"`, "&
 
 func (d *drawer) one(of ...string) string { return of[d.Intn(len(of))] }
 
-// name is a new name, with blanks, signs, letters beyond ASCII, or over 64 bytes.
+// name returns a new name, with blanks, signs, letters beyond ASCII, or over 64 bytes.
 func (d *drawer) name() string {
 	d.made++
 	return fmt.Sprintf(d.one("amount %d", "größe%d", "net-price %d", "client's age %d", "x%d", "a+b %d", "if %d",
 		"a name that is by far too long to be a word of the model as some names are %d"), d.made)
 }
 
-// of is an expression of a type.
+// of returns an expression of a type.
 func (d *drawer) of(kind string, depth int) string {
 	if names := d.scope[kind]; len(names) > 0 && d.Intn(3) > 0 {
 		return d.one(names...)
@@ -88,7 +88,7 @@ func (d *drawer) text(kind string) string {
 	return "<literalExpression><text>" + forXML.Replace(d.of(kind, 2)) + "</text></literalExpression>"
 }
 
-// test is an input entry of a column of a type.
+// test returns an input entry for a column of a type.
 func (d *drawer) test(kind string) string {
 	switch kind {
 	case aNumber:
@@ -100,7 +100,7 @@ func (d *drawer) test(kind string) string {
 	return d.one("-", `"a"`, `not("a", "HIGH")`, `"a", "b"`, `? = `+d.of(aText, 1), `["HIGH", "x"]`)
 }
 
-// logic is a boxed expression of a type.
+// logic returns a boxed expression of a type.
 func (d *drawer) logic(kind string, depth int) string {
 	switch choice := d.Intn(5); {
 	case depth == 0 || choice == 0:
@@ -118,7 +118,7 @@ func (d *drawer) logic(kind string, depth int) string {
 	return d.table(kind)
 }
 
-// context is a boxed context with an entry and a result over it.
+// context returns a boxed context with an entry and a result over it.
 func (d *drawer) context(kind string, depth int) string {
 	entry := d.one(aNumber, aText, aTruth)
 	name := d.name()
@@ -129,7 +129,7 @@ func (d *drawer) context(kind string, depth int) string {
 	return text + d.logic(kind, depth-1) + "</contextEntry></context>"
 }
 
-// table is a decision table that gives values of a type.
+// table returns a decision table that gives values of a type.
 func (d *drawer) table(kind string) string {
 	policy, gives, values := d.one("UNIQUE", "ANY", "FIRST"), kind, ""
 	switch {
@@ -158,7 +158,7 @@ func (d *drawer) table(kind string) string {
 	return all.String() + "</decisionTable>"
 }
 
-// file is a file with inputs of each type and some decisions over them and over each other.
+// file returns a file with inputs of each type and some decisions over them and over each other.
 func (d *drawer) file() string {
 	for _, kind := range []string{aNumber, aNumber, aText, aTruth, aRisk, numbers, anOrder} {
 		d.add(kind, "input", "")
@@ -173,7 +173,7 @@ func (d *drawer) file() string {
 	return header + drawnTypes + strings.Join(d.parts, "\n") + "</definitions>"
 }
 
-// add adds an input or a decision, which those behind it may require.
+// add adds an input or a decision that later ones may require.
 func (d *drawer) add(kind, tag, logic string) {
 	name := d.name()
 	id := fmt.Sprintf("%s_%d", tag, d.made)
@@ -189,7 +189,7 @@ func (d *drawer) add(kind, tag, logic string) {
 	d.scope[kind] = append(d.scope[kind], name)
 }
 
-// service is a decision service of all inputs and the last decision.
+// service returns a decision service of all inputs and the last decision.
 func (d *drawer) service() string {
 	var lists, last string
 	for _, part := range d.parts {
@@ -203,7 +203,7 @@ func (d *drawer) service() string {
 	return `<decisionService id="service" name="my service">` + last + lists + "</decisionService>"
 }
 
-// brought is what an import makes of a file, in JSON, with its names and types.
+// brought returns an import's result of a file, as JSON, with its names and types.
 func brought(t *testing.T, name, file string) []byte {
 	t.Helper()
 	read, err := dmn.Read(name, strings.NewReader(file))
@@ -221,8 +221,8 @@ func brought(t *testing.T, name, file string) []byte {
 	return whole
 }
 
-// TestRoundTrips draws files, and imports what is exported of them: the model is the same, and so are the names,
-// but where they would run into each other, as "if 1" and "if".
+// TestRoundTrips generates files, and imports their exports: the model is the same, and so are the names, unless they would run
+// together, such as "if 1" and "if".
 func TestRoundTrips(t *testing.T) {
 	for seed := int64(1); seed <= drawings; seed++ {
 		d := &drawer{Rand: rand.New(rand.NewSource(seed)), scope: map[string][]string{}}
@@ -232,10 +232,10 @@ func TestRoundTrips(t *testing.T) {
 		if err != nil {
 			t.Fatal(err)
 		}
-		var told bytes.Buffer
-		exported, refusals := fileOf(source, &told)
-		if len(refusals) > 0 || strings.Count(told.String(), "\n") != strings.Count(told.String(), " is written as ") {
-			t.Errorf("drawing %d: %v %s\n%s", seed, refusals, told.String(), file)
+		var messages bytes.Buffer
+		exported, refusals := fileOf(source, &messages)
+		if len(refusals) > 0 || strings.Count(messages.String(), "\n") != strings.Count(messages.String(), " is written as ") {
+			t.Errorf("drawing %d: %v %s\n%s", seed, refusals, messages.String(), file)
 			continue
 		}
 		again, err := export.Read(brought(t, fmt.Sprintf("export of drawing %d", seed), string(exported)))
@@ -250,7 +250,7 @@ func TestRoundTrips(t *testing.T) {
 			t.Errorf("drawing %d: %v\n%s\nis again\n%s", seed, err, due, got)
 		}
 		for word, name := range again.Names {
-			// What an import made itself has no name in the first file, and where names run into each other words are written.
+			// What an import made has no name in the first file, and if names run together words are written.
 			if before, named := source.Names[word]; named && before != name && name != word {
 				t.Errorf("drawing %d: %s is %q, and again %q", seed, word, before, name)
 			}

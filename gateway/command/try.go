@@ -53,7 +53,7 @@ was tried is kept in the folder. The status is 1 if an answer differs.`,
 		if len(words) != 2 || len(o.over) == 0 {
 			return wrong("a journal, a folder and a release are due: %s", usageOf(c))
 		}
-		ctx, stop := untilTold(c)
+		ctx, stop := untilStopped(c)
 		defer stop()
 		t := &trying{command: c, options: o, folder: folder}
 		return reported(c.ErrOrStderr(), t.run(ctx, words[1]))
@@ -74,13 +74,13 @@ type trying struct {
 	options  tryOptions
 	folder   string
 	old, new *service.Source
-	// newFile is the file of the new release; empty where it is a model.
+	// newFile is the new release's file; empty for a model.
 	newFile string
 	listed  []*record.Difference
 	table   *csv.Writer
 }
 
-// mostTried is how many differing requests are listed.
+// mostTried limits the listed requests that differ.
 const mostTried = 20
 
 func (t *trying) run(ctx context.Context, word string) (err error) {
@@ -110,7 +110,7 @@ func (t *trying) run(ctx context.Context, word string) (err error) {
 	return nil
 }
 
-// askAll asks both models, and writes the table of what differs.
+// askAll asks both models, and writes the table of differences.
 func (t *trying) askAll(ctx context.Context) (tried *record.Tried, err error) {
 	if t.options.csv == "" {
 		return t.ask(ctx)
@@ -131,7 +131,7 @@ func (t *trying) askAll(ctx context.Context) (tried *record.Tried, err error) {
 	return tried, err
 }
 
-// model reads a release of the folder, or else a model.
+// model reads a release from the folder, or else a model.
 func (t *trying) model(word string) (*service.Source, string, error) {
 	it, err := findKept(t.folder, word)
 	if err == nil {
@@ -145,7 +145,7 @@ func (t *trying) model(word string) (*service.Source, string, error) {
 	return source, "", err
 }
 
-// readOld reads the release in force, or the one that it is held against.
+// readOld reads the current release, or the one to compare with.
 func (t *trying) readOld() (err error) {
 	if t.options.against != "" {
 		t.old, _, err = t.model(t.options.against)
@@ -185,7 +185,7 @@ func (t *trying) ask(ctx context.Context) (*record.Tried, error) {
 	return all, nil
 }
 
-// take lists a request that gets another answer.
+// take lists a request with another answer.
 func (t *trying) take(it *record.Difference) error {
 	if len(t.listed) < mostTried {
 		t.listed = append(t.listed, it)
@@ -196,7 +196,7 @@ func (t *trying) take(it *record.Difference) error {
 	return t.table.Write([]string{it.Case.ID, it.Case.Request, it.Case.Time, it.Case.Service, string(it.Inputs), it.Old, it.New, it.Where})
 }
 
-// keep notes that a release of the folder was tried.
+// keep records that a release of the folder was tried.
 func (t *trying) keep(tried *record.Tried) error {
 	if t.newFile == "" {
 		return nil

@@ -8,16 +8,16 @@ import (
 	"time"
 )
 
-// A size is a number of bytes on the command line, as 512MiB.
+// A size is a number of bytes on the command line, such as 512MiB.
 type size int64
 
-// sizeUnits are the units of sizes, the largest first.
+// sizeUnits are the units of sizes, largest first.
 var sizeUnits = []struct {
 	name  string
 	bytes int64
 }{{"GiB", 1 << 30}, {"MiB", 1 << 20}, {"KiB", 1 << 10}, {"", 1}}
 
-// mostUnits is the greatest number of units, so that no size overflows.
+// mostUnits limits the number of units, so that no size overflows.
 const mostUnits = 1 << 31
 
 func (s *size) Set(text string) error {
@@ -46,7 +46,7 @@ func (s *size) String() string {
 
 func (*size) Type() string { return "SIZE" }
 
-// A duration is a time on the command line, as 5s.
+// A duration is a time on the command line, such as 5s.
 type duration time.Duration
 
 func (d *duration) Set(text string) error {
@@ -59,7 +59,7 @@ func (d *duration) Set(text string) error {
 }
 
 func (d *duration) String() string {
-	// Times of whole minutes are written without seconds.
+	// Whole minutes are written without seconds.
 	text := time.Duration(*d).String()
 	if strings.HasSuffix(text, "m0s") {
 		return strings.TrimSuffix(text, "0s")
@@ -69,12 +69,12 @@ func (d *duration) String() string {
 
 func (*duration) Type() string { return "TIME" }
 
-// A days is a time on the command line that may be long, as 400d.
+// A days is a time on the command line that may be long, such as 400d.
 type days time.Duration
 
 const day = 24 * time.Hour
 
-// mostDays is how many days a time has at most, so that none overflows.
+// mostDays limits the days of a time, so that none overflows.
 const mostDays = 36_500
 
 func (d *days) Set(text string) error {

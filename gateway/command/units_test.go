@@ -7,7 +7,7 @@ import (
 	"github.com/spf13/pflag"
 )
 
-// Sizes and times of the journal are read as they are written in help, and written back the same.
+// The journal's sizes and times are read as in the help, and written back the same.
 func TestUnits(t *testing.T) {
 	for _, it := range []struct {
 		value pflag.Value

@@ -13,14 +13,13 @@ import (
 	"gateway/engine"
 )
 
-// Set by the linker: the version of the program, and the SHA-256 of the engine that it was built with.
+// Set by the linker: the program's version, and the SHA-256 of its engine.
 var (
 	version   = "0.0.0"
 	engineSum = ""
 )
 
-// writeVersion writes what this program is and what its engine says of itself: its version, the logic that proved it,
-// its sources.
+// writeVersion writes this program's version, and its engine's: version, logic and sources.
 func writeVersion(c *cobra.Command) error {
 	fmt.Fprintf(c.OutOrStdout(), "desk %s\n", version)
 	path, err := engine.Path()
@@ -41,7 +40,7 @@ func writeVersion(c *cobra.Command) error {
 	return nil
 }
 
-// engineNotes says whether the engine is another one than this program was built with.
+// engineNotes notes if the engine is not the one that this program was built with.
 func engineNotes(path string) []string {
 	sum, err := sumOf(path)
 	switch {
@@ -56,7 +55,7 @@ func engineNotes(path string) []string {
 	return nil
 }
 
-// sumOf is the SHA-256 of a file in hexadecimal.
+// sumOf returns the SHA-256 of a file in hexadecimal.
 func sumOf(path string) (string, error) {
 	file, err := os.Open(path)
 	if err != nil {

@@ -1,5 +1,5 @@
-// Package coverage counts over lines of `desk explain` how often each rule of each table hit and decided. It knows no rule:
-// which ones hit and decided stands on the lines.
+// Package coverage counts from lines of `desk explain` how often each rule of each table hit and decided. It knows no rules:
+// the lines say which hit and decided.
 package coverage
 
 import (
@@ -7,57 +7,56 @@ import (
 	"strconv"
 )
 
-// A Table is what was counted of one table.
+// A Table has the counts of a table.
 type Table struct {
-	// Asked is how often its rules were asked, Defaults how often none of them hit and a default stood in, None how often
-	// none hit and nothing stood in.
+	// Asked is how often its rules were evaluated, Defaults how often none hit and a default was used, None how often none hit
+	// without a default.
 	Asked    int `json:"asked"`
 	Defaults int `json:"defaults"`
 	None     int `json:"none"`
-	// Hits and Decided are by rule; those behind the last one of which there is something to count are not there. Decided is
-	// nil where no line says which rules decided.
+	// Hits and Decided are by rule, without trailing zeros. Decided is nil if no line says which rules decided.
 	Hits    []int `json:"hits"`
 	Decided []int `json:"decided"`
-	// Missed says, by rule and column, where a rule missed: at the first column that wasn't met. It is filled where lines tell the
+	// Missed says, by rule and column, where a rule missed: at the first column that wasn't met. It is filled if lines have
 	// misses.
 	Missed [][]bool `json:"-"`
 }
 
-// An Answer is what a line says of its request.
+// An Answer is what a line says about its request.
 type Answer struct {
-	// Result is the text of the result, good as long as the line is; nil where there is none.
+	// Result is the result's text, valid as long as the line, or nil.
 	Result []byte
-	// Fault and Refused are words, each empty where it is not there.
+	// Fault and Refused are words, or empty.
 	Fault, Refused string
 }
 
-// Counts are those of the tables of a model.
+// Counts has the counts of a model's tables.
 type Counts struct {
 	decisions map[string]*part
-	// form is that of lines, and order has the decisions in their order on the last one.
+	// form is the form of lines; order has the decisions in the order of the last one.
 	form  form
 	order []*part
 }
 
-// A part is a decision or a boxed expression in it, with what was counted of it and of its own parts.
+// A part is a decision or a boxed expression in it, with its counts and its own parts.
 type part struct {
 	table            *Table
 	entries, members []*part
 	result           *part
-	// begin is how a decision begins, and name the name of an entry.
+	// begin is how a decision begins, name an entry's name.
 	begin, name string
-	// What its table and the hits of that have for keys, beside its own.
+	// The keys of its table, its hits and its misses, besides its own.
 	form, ofTable, ofHits, ofMisses form
 }
 
-// New has counted nothing.
+// New returns empty counts.
 func New() *Counts {
 	return &Counts{decisions: map[string]*part{}}
 }
 
 var errLine = errors.New("a line of an explanation cannot be read")
 
-// Add counts what a line tells of a request, and gives its answer.
+// Add counts a line about a request, and returns its answer.
 func (c *Counts) Add(line []byte) (answer Answer, err error) {
 	at, number := &cursor{text: line}, 0
 	for is := at.open('{', '}'); is; is = at.more('}') {
@@ -90,7 +89,7 @@ func (c *Counts) readDecisions(at *cursor) {
 	}
 }
 
-// begun goes over the begin of a decision, which is its name, and gives the decision.
+// begun reads the start of a decision, which is its name, and returns the decision.
 func (c *Counts) begun(at *cursor, number int) *part {
 	if number < len(c.order) && at.goes(c.order[number].begin) {
 		return c.order[number]
@@ -105,7 +104,7 @@ func (c *Counts) begun(at *cursor, number int) *part {
 	return it
 }
 
-// named is the decision with a name.
+// named returns the decision with a name.
 func (c *Counts) named(name []byte) *part {
 	it := c.decisions[string(name)]
 	if it == nil {
@@ -115,7 +114,7 @@ func (c *Counts) named(name []byte) *part {
 	return it
 }
 
-// member counts what stands under a key of a part.
+// member counts the value under a key of a part.
 func (p *part) member(at *cursor, key string) {
 	switch key {
 	case `"name":`:
@@ -146,7 +145,7 @@ func (p *part) read(at *cursor) {
 	}
 }
 
-// rest counts what stands behind so many members of a part, or behind the name of a decision.
+// rest counts what follows this many members of a part, or a decision's name.
 func (p *part) rest(at *cursor, number int) {
 	for ; at.more('}'); number++ {
 		p.member(at, at.key(&p.form, number))
@@ -165,7 +164,7 @@ func readParts(at *cursor, parts []*part) []*part {
 	return parts
 }
 
-// readTable counts what a line says of the table.
+// readTable counts what a line says about the table.
 func (p *part) readTable(at *cursor) {
 	t, number, hits, isAsked, defaults := p.table, 0, 0, false, false
 	for is := at.open('{', '}'); is; is = at.more('}') {
@@ -196,7 +195,7 @@ func (p *part) readTable(at *cursor) {
 	t.Asked++
 }
 
-// readHits counts the rules of a list of hits, and says how many these are.
+// readHits counts the rules of a list of hits, and returns their number.
 func (p *part) readHits(at *cursor) (hits int) {
 	for is := at.open('[', ']'); is; is = at.more(']') {
 		p.table.Hits = counted(p.table.Hits, p.hitRule(at))
@@ -222,7 +221,7 @@ func (p *part) readMisses(at *cursor) {
 	}
 }
 
-// miss is the rule and the column of a miss.
+// miss returns the rule and column of a miss.
 func (p *part) miss(at *cursor) (rule, column int) {
 	number := 0
 	for is := at.open('{', '}'); is; is = at.more('}') {
@@ -255,7 +254,7 @@ func (t *Table) missed(rule, column int) {
 	t.Missed[rule-1] = row
 }
 
-// hitRule is the number of the rule of a hit.
+// hitRule returns the rule number of a hit.
 func (p *part) hitRule(at *cursor) (rule int) {
 	number := 0
 	for is := at.open('{', '}'); is; is = at.more('}') {
@@ -269,10 +268,10 @@ func (p *part) hitRule(at *cursor) (rule int) {
 	return rule
 }
 
-// mostRules is more than a model has: it fits into a line.
+// mostRules is more than a model has, as it fits into a line.
 const mostRules = 1 << 20
 
-// counted adds 1 to the count of a rule, of which the first has number 1.
+// counted adds 1 to the count of a rule, from 1.
 func counted(counts []int, rule int) []int {
 	if rule < 1 || rule > mostRules {
 		return counts
@@ -284,14 +283,14 @@ func counted(counts []int, rule int) []int {
 	return counts
 }
 
-// Merge adds what others counted, which are not used any more.
+// Merge adds the counts of other, which is not used any more.
 func (c *Counts) Merge(other *Counts) {
 	for name, it := range other.decisions {
 		c.decisions[name] = merged(c.decisions[name], it)
 	}
 }
 
-// merged is the sum of two parts, each of which may be nil.
+// merged returns the sum of two parts, which may be nil.
 func merged(one, other *part) *part {
 	if one == nil || other == nil {
 		if one == nil {
@@ -342,7 +341,7 @@ func (t *Table) mergeMissed(rule int, columns []bool) {
 	}
 }
 
-// sums adds counts, of which the longer list stays; a nil one is no list.
+// sums adds counts, in the longer list; nil is no list.
 func sums(counts, others []int) []int {
 	if counts == nil || others != nil && len(counts) < len(others) {
 		counts, others = others, counts
@@ -353,7 +352,7 @@ func sums(counts, others []int) []int {
 	return counts
 }
 
-// Tables are the counts by the JSON Pointer (RFC 6901) of each table in a model whose decisions have these names.
+// Tables returns the counts by the JSON Pointer (RFC 6901) of each table, in a model whose decisions have these names.
 func (c *Counts) Tables(decisions []string) map[string]*Table {
 	tables := map[string]*Table{}
 	for at, name := range decisions {

@@ -5,7 +5,7 @@ import (
 	"testing"
 )
 
-// Lines in the form of docs/LINES.md, with what is to be counted of them.
+// Lines in the form of docs/LINES.md, with the expected counts.
 func TestCounts(t *testing.T) {
 	counts := New()
 	for _, it := range []struct{ line, result, fault, refused string }{
@@ -37,7 +37,7 @@ func TestCounts(t *testing.T) {
 	}
 }
 
-// What several counted is what one counts over all lines, also where keys and decisions come otherwise than before.
+// Several counts merge to the count of all lines, also with another order of keys and decisions.
 func TestMerge(t *testing.T) {
 	lines := []string{
 		`{"decisions":[{"name":"d","value":1,"table":{"hits":[{"rule":2,"value":1}],"defaults":false,"decided":[2]}}],"result":1}`,
@@ -83,7 +83,7 @@ func TestMerge(t *testing.T) {
 	}
 }
 
-// A line that is cut anywhere is refused, and nothing panics.
+// A line that is cut anywhere is refused, without a panic.
 func TestHalfLines(t *testing.T) {
 	line := `{"client":"b","decisions":[{"name":"d","value":"\"","table":{"hits":[{"rule":2}],"decided":[2]}}],"result":5}`
 	for end := range line {

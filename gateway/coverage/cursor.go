@@ -1,6 +1,6 @@
 package coverage
 
-// A cursor goes through a compact JSON text that an engine wrote. It is lenient: a text that is none makes it bad.
+// A cursor reads compact JSON that an engine wrote. It is lenient: invalid text makes it bad.
 type cursor struct {
 	text  []byte
 	at    int
@@ -23,7 +23,7 @@ func (c *cursor) take(due byte) {
 	c.at++
 }
 
-// open goes into a list or an object, which begins and ends with these, and says whether it has a part.
+// open enters a list or object with these ends, and reports whether it has a part.
 func (c *cursor) open(begin, end byte) bool {
 	c.take(begin)
 	if c.peek() == end {
@@ -33,7 +33,7 @@ func (c *cursor) open(begin, end byte) bool {
 	return !c.isBad
 }
 
-// more goes behind a part of what ends so, and says whether another one is there.
+// more moves past a part of a list or object, and reports whether there is another.
 func (c *cursor) more(end byte) bool {
 	if c.peek() == ',' && !c.isBad {
 		c.at++
@@ -43,7 +43,7 @@ func (c *cursor) more(end byte) bool {
 	return false
 }
 
-// goes says whether a text comes next, and goes over it then.
+// goes skips a text if it comes next, and reports whether it does.
 func (c *cursor) goes(text string) bool {
 	if end := c.at + len(text); end <= len(c.text) && string(c.text[c.at:end]) == text {
 		c.at = end
@@ -52,10 +52,10 @@ func (c *cursor) goes(text string) bool {
 	return false
 }
 
-// A form has the keys of an object as they came last, in their order, each with its quotes and its colon: most come so again.
+// A form has an object's keys in their last order, with quotes and colons: they usually repeat.
 type form []string
 
-// key goes over the key that is number at in an object, and gives it with its quotes and its colon.
+// key reads an object's key number at, and returns it with its quotes and colon.
 func (c *cursor) key(f *form, at int) string {
 	if at < len(*f) && c.goes((*f)[at]) {
 		return (*f)[at]
@@ -73,14 +73,14 @@ func (c *cursor) key(f *form, at int) string {
 	return key
 }
 
-// name goes over a text in quotes that is mostly the one that came last.
+// name reads a text in quotes that is usually the last one.
 func (c *cursor) name(last *string) {
 	if *last == "" || !c.goes(*last) {
 		*last = string(c.value())
 	}
 }
 
-// quoted is what stands within quotes, as it is written. Most are short: a loop is quicker with them than a search is.
+// quoted returns what is in quotes, as written. Most are short: for them a loop is faster than a search.
 func (c *cursor) quoted() []byte {
 	c.take('"')
 	for start, at := c.at, c.at; at < len(c.text); at++ {
@@ -96,7 +96,7 @@ func (c *cursor) quoted() []byte {
 	return nil
 }
 
-// number is a whole number that is not below 0.
+// number returns a non-negative integer.
 func (c *cursor) number() int {
 	n, start := 0, c.at
 	for c.at < len(c.text) && c.text[c.at] >= '0' && c.text[c.at] <= '9' {
@@ -107,7 +107,7 @@ func (c *cursor) number() int {
 	return n
 }
 
-// value goes over a value, and gives its text.
+// value skips a value, and returns its text.
 func (c *cursor) value() []byte {
 	start := c.at
 	switch c.peek() {
@@ -124,10 +124,10 @@ func (c *cursor) value() []byte {
 	return c.text[start:c.at]
 }
 
-// isEnd has what stands behind a number, or behind true, false or null.
+// isEnd has what may follow a number, true, false or null.
 var isEnd = [256]bool{',': true, '}': true, ']': true}
 
-// nested goes over a list or an object.
+// nested skips a list or object.
 func (c *cursor) nested() {
 	depth := 0
 	for at := c.at; at < len(c.text); at++ {

@@ -17,8 +17,8 @@ const (
 	endOfHeader = 1024
 )
 
-// asUTF8 gives the characters of a file as UTF-8, without a byte order mark. The encoding is told by the byte order
-// mark, else by the XML declaration; without either it is UTF-8.
+// asUTF8 converts a file to UTF-8 without a byte order mark. The byte order mark gives the encoding, else the XML declaration,
+// else it is UTF-8.
 func asUTF8(raw []byte) ([]byte, *Fault) {
 	switch {
 	case bytes.HasPrefix(raw, []byte{0x1f, 0x8b}):
@@ -49,7 +49,7 @@ func asUTF8(raw []byte) ([]byte, *Fault) {
 	}
 }
 
-// declared is the encoding that the XML declaration of a file names; empty where it names none.
+// declared returns the encoding named in a file's XML declaration, or "".
 func declared(raw []byte) string {
 	head := raw
 	if len(head) > endOfHeader {

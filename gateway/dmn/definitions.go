@@ -2,13 +2,13 @@ package dmn
 
 // A File is one .dmn file.
 type File struct {
-	// Path is the name that the file was read under.
+	// Path is the name under which the file was read.
 	Path string
-	// Version is that of DMN, as "1.3".
+	// Version is the DMN version, such as "1.3".
 	Version string
-	// Namespace is the one of the model itself; references of other files begin with it.
+	// Namespace is the model's; references from other files begin with it.
 	Namespace string
-	// Root is the element definitions.
+	// Root is the definitions element.
 	Root *Element
 
 	Imports   []*Element
@@ -17,14 +17,14 @@ type File struct {
 	Decisions []*Decision
 	Knowledge []*BusinessKnowledge
 	Services  []*DecisionService
-	// Faults are the parts that are not known, in the order of the file.
+	// Faults has the unknown parts, in file order.
 	Faults []*Fault
 }
 
-// A Variable is an informationItem: a name with a type. Without an element of its own it is nil.
+// A Variable is an informationItem: a name with a type. It is nil if the file has no such element.
 type Variable struct {
 	*Element
-	// TypeRef is the name of its type; empty where none is declared.
+	// TypeRef is its type's name, or "".
 	TypeRef string
 }
 
@@ -34,13 +34,13 @@ type InputData struct {
 	Variable *Variable
 }
 
-// A Decision is a decision with what it requires and its logic.
+// A Decision has its requirements and its logic.
 type Decision struct {
 	*Element
 	Variable *Variable
-	// Inputs and Decisions are the information that it requires, Knowledge what it may invoke.
+	// Inputs and Decisions are the required information, Knowledge what it may invoke.
 	Inputs, Decisions, Knowledge []*Reference
-	// Logic is nil where there is none.
+	// Logic may be nil.
 	Logic Expression
 }
 
@@ -49,7 +49,7 @@ type BusinessKnowledge struct {
 	*Element
 	Variable  *Variable
 	Knowledge []*Reference
-	// Logic is nil where there is none.
+	// Logic may be nil.
 	Logic *FunctionDefinition
 }
 
@@ -60,67 +60,67 @@ type DecisionService struct {
 	Outputs, Encapsulated, Decisions, Input []*Reference
 }
 
-// A Reference names an element by its id, behind "#", with the namespace of its file in front where it is another.
+// A Reference names an element by id after "#". The namespace of another file comes before it.
 type Reference struct {
 	*Element
 	Href string
 }
 
-// An ItemDefinition is a type: a name for another type, or a context of components; maybe a list of that.
+// An ItemDefinition is a type: a name for another type, or a context of components, perhaps a list of these.
 type ItemDefinition struct {
 	*Element
 	TypeRef    string
 	Components []*ItemDefinition
 	Collection bool
-	// Allowed is the element allowedValues or typeConstraint; nil where there is none.
+	// Allowed is the element allowedValues or typeConstraint, or nil.
 	Allowed *Text
-	// Function tells that it is a type of functions.
+	// Function means a type of functions.
 	Function bool
 }
 
-// A Text is an element with a FEEL text in it.
+// A Text is an element with FEEL text.
 type Text struct {
 	*Element
 	Text string
-	// Language is the expression language that it declares, else that of the file; empty where neither declares one.
+	// Language is its expression language, else that of the file; "" if neither declares one.
 	Language string
-	// TypeRef is the declared type of its value; empty where none is declared.
+	// TypeRef is the declared type of its value, or "".
 	TypeRef string
 }
 
-// An Expression is one of the boxed expressions: *Text, *Table, *Context, *List, *Relation, *Invocation,
-// *FunctionDefinition, *Conditional, or *Unread.
+// An Expression is a boxed expression: *Text, *Table, *Context, *List, *Relation, *Invocation, *FunctionDefinition,
+// *Conditional, or *Unread.
 type Expression interface {
-	// At is the element of the expression.
+	// At returns the expression's element.
 	At() *Element
-	// Type is the name of its declared type; empty where none is declared.
+	// Type returns the name of its declared type, or "".
 	Type() string
 }
 
-// At is the element itself.
+// At returns the element itself.
 func (e *Element) At() *Element { return e }
 
-// Type is the typeRef of the element.
+// Type returns the typeRef of the element.
 func (e *Element) Type() string { return e.Attribute("typeRef") }
 
 // A Table is a decisionTable.
 type Table struct {
 	*Element
-	// HitPolicy is as in the file, "UNIQUE" where it is left out; Aggregation is empty where it is left out.
+	// HitPolicy is as in the file, "UNIQUE" by default. Aggregation may be empty.
 	HitPolicy, Aggregation string
 	Inputs                 []*InputClause
 	Outputs                []*OutputClause
 	Rules                  []*Rule
 }
 
-// An InputClause is an input column. Expression is nil where it is left out, as is Values.
+// An InputClause is an input column. Expression and Values may be nil.
 type InputClause struct {
 	*Element
 	Expression *Text
 	Values     *Text
 }
 
-// An OutputClause is an output column. Values and Default are nil where they are left out.
+// An OutputClause is an output column. Values and Default may be nil.
 type OutputClause struct {
 	*Element
 	Values  *Text
@@ -133,13 +133,13 @@ type Rule struct {
 	When, Then []*Text
 }
 
-// A Context is a boxed context; the last entry may have no name, and is its result then.
+// A Context is a boxed context. If the last entry has no name it is the result.
 type Context struct {
 	*Element
 	Entries []*ContextEntry
 }
 
-// A ContextEntry is an entry of a context. Variable is nil for the result; Value is nil where there is none.
+// A ContextEntry is an entry of a context. Variable is nil for the result. Value may be nil.
 type ContextEntry struct {
 	*Element
 	Variable *Variable
@@ -152,43 +152,43 @@ type List struct {
 	Members []Expression
 }
 
-// A Relation is a list of contexts, written as a table: a name for each column, and rows.
+// A Relation is a list of contexts in the form of a table: a name for each column, and rows.
 type Relation struct {
 	*Element
 	Columns []*Variable
 	Rows    []*List
 }
 
-// An Invocation is a boxed invocation: the function as an expression, and its arguments by the names of parameters.
+// An Invocation is a boxed invocation: the function as an expression, and its arguments by parameter name.
 type Invocation struct {
 	*Element
-	// Function is nil where there is none.
+	// Function may be nil.
 	Function *Text
 	Bindings []*Binding
 }
 
-// A Binding gives a parameter its argument. Parameter or Value are nil where they are left out.
+// A Binding gives a parameter its argument. Parameter and Value may be nil.
 type Binding struct {
 	*Element
 	Parameter *Variable
 	Value     Expression
 }
 
-// A FunctionDefinition is a function: parameters and a body.
+// A FunctionDefinition is a function with parameters and a body.
 type FunctionDefinition struct {
 	*Element
-	// Kind is "FEEL", "Java" or "PMML"; "FEEL" where it is left out.
+	// Kind is "FEEL", "Java" or "PMML", "FEEL" by default.
 	Kind       string
 	Parameters []*Variable
-	// Body is nil where there is none.
+	// Body may be nil.
 	Body Expression
 }
 
-// A Conditional is an if of boxed expressions. Each part is nil where it is left out.
+// A Conditional is an if of boxed expressions. Each part may be nil.
 type Conditional struct {
 	*Element
 	If, Then, Else Expression
 }
 
-// Unread is a boxed expression of DMN that is known by its name alone: filter, for, every, some.
+// Unread is a boxed expression known only by name: filter, for, every, some.
 type Unread struct{ *Element }

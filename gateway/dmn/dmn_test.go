@@ -14,7 +14,7 @@ const small = `<definitions ` + dmn13 + ` name="m" namespace="n">
   <decision id="d" name="Größe"><literalExpression><text>1</text></literalExpression></decision>
 </definitions>`
 
-// asUTF16 spells a text in UTF-16.
+// asUTF16 encodes a text in UTF-16.
 func asUTF16(text string, mark, littleEnd bool) []byte {
 	units := utf16.Encode([]rune(text))
 	if mark {
@@ -97,7 +97,7 @@ func TestPlacesOfElements(t *testing.T) {
 	}
 }
 
-// TestFilesThatAreNotRead has what the XML reader or we refuse: the place and words of the reason.
+// TestFilesThatAreNotRead has what the XML reader or we refuse, with place and reason.
 func TestFilesThatAreNotRead(t *testing.T) {
 	open := "<definitions " + dmn13 + ">"
 	for name, c := range map[string]struct {
@@ -160,11 +160,11 @@ func TestPartsThatAreNotKnown(t *testing.T) {
 <decision name="e"><literalExpression/><list/></decision>
 <DMNDI><DMNDiagram/></DMNDI>
 </definitions>`))
-	var told []string
+	var reported []string
 	for _, fault := range file.Faults {
-		told = append(told, fault.Text)
+		reported = append(reported, fault.Text)
 	}
-	if got := strings.Join(told, " "); got != "literalExpression literalExpresion list" {
+	if got := strings.Join(reported, " "); got != "literalExpression literalExpresion list" {
 		t.Errorf("what is not known is %s", got)
 	}
 }
@@ -185,12 +185,12 @@ func TestPartsThatStandTwiceAndStrayCharacters(t *testing.T) {
 		"<invocation><binding><parameter name='a'/><parameter name='b'/></binding></invocation>": "parameter: the element stands twice",
 	} {
 		file := read(t, []byte("<definitions "+dmn13+"><decision name='d'>"+parts+"</decision></definitions>"))
-		told := ""
+		reported := ""
 		for _, fault := range file.Faults {
-			told += fault.Text + ": " + fault.Why + "; "
+			reported += fault.Text + ": " + fault.Why + "; "
 		}
-		if !strings.Contains(told, due) {
-			t.Errorf("%s tells %q, due %q", parts, told, due)
+		if !strings.Contains(reported, due) {
+			t.Errorf("%s tells %q, due %q", parts, reported, due)
 		}
 	}
 }
@@ -208,7 +208,7 @@ func TestAttributesThatAreTrueOrFalse(t *testing.T) {
 	}
 }
 
-// FuzzRead holds that no bytes make the reader fail in any other way than by a fault with a place.
+// FuzzRead checks that the reader fails only with a fault that has a place.
 func FuzzRead(f *testing.F) {
 	f.Add([]byte(small))
 	f.Add(asUTF16(small, true, true))

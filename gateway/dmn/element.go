@@ -10,28 +10,28 @@ import (
 	"unicode/utf8"
 )
 
-// Limits of a file. A model has to fit in a line of 1,048,576 bytes, so these are far beyond any file that can be
-// taken; they hold what a hostile file costs.
+// Limits of a file. A model must fit in a line of 1,048,576 bytes, so these are far larger than any usable file; they bound the
+// cost of a hostile one.
 const (
 	MostBytes    = 16 << 20
 	MostDepth    = 256
 	MostElements = 500_000
-	// MostName is how many bytes a name may have: each text that may use it is read with it.
+	// MostName limits a name's bytes, as each text that may use the name is read with it.
 	MostName = 1000
 )
 
-// An Element is an element of the file, with all that stands in it.
+// An Element is an element of the file and its content.
 type Element struct {
-	// Space is the namespace that its prefix stands for, Tag its name without the prefix.
+	// Space is the namespace of its prefix, Tag its name without prefix.
 	Space, Tag string
 	Attributes []xml.Attr
 	Children   []*Element
-	// Text is the characters that stand directly in it, one after the other.
+	// Text is the characters directly in it, joined.
 	Text  string
 	Place Place
 }
 
-// Attribute is the value of an attribute without a prefix, trimmed; empty where there is none.
+// Attribute returns the trimmed value of an attribute without prefix, or "".
 func (e *Element) Attribute(name string) string {
 	for _, a := range e.Attributes {
 		if a.Name.Space == "" && a.Name.Local == name {
@@ -41,10 +41,10 @@ func (e *Element) Attribute(name string) string {
 	return ""
 }
 
-// xmlSpace is the namespace of the prefix xml, which no file declares.
+// xmlSpace is the namespace of the prefix xml, which files don't declare.
 const xmlSpace = "http://www.w3.org/XML/1998/namespace"
 
-// Language is the language that xml:lang says of the element, as "de"; empty where it says none.
+// Language returns the element's xml:lang, such as "de", or "".
 func (e *Element) Language() string {
 	for _, a := range e.Attributes {
 		if a.Name.Space == xmlSpace && a.Name.Local == "lang" {
@@ -54,10 +54,10 @@ func (e *Element) Language() string {
 	return ""
 }
 
-// ID is the element's id; empty where it has none.
+// ID returns the element's id, or "".
 func (e *Element) ID() string { return e.Attribute("id") }
 
-// Name is the element's name, or its label where it has no name; a label may be a long text, which is none.
+// Name returns the element's name, else its label. A long label doesn't count.
 func (e *Element) Name() string {
 	if name := e.Attribute("name"); name != "" {
 		return name
@@ -68,22 +68,22 @@ func (e *Element) Name() string {
 	return ""
 }
 
-// treeReader builds the elements of one file.
+// A treeReader builds the elements of a file.
 type treeReader struct {
 	decoder *xml.Decoder
 	lines   *ruler
 	open    []*Element
 	root    *Element
 	count   int
-	// words keeps one copy of each tag and namespace.
+	// words caches tags and namespaces.
 	words map[string]string
 	texts []*strings.Builder
 }
 
-// readTree reads the text of a file, UTF-8, as one root element.
+// readTree reads UTF-8 text as one root element.
 func readTree(text []byte) (*Element, *Fault) {
 	decoder := xml.NewDecoder(bytes.NewReader(text))
-	// The text is UTF-8 whatever its declaration says: it was decoded before.
+	// The text is UTF-8 whatever its declaration says, as it was decoded before.
 	decoder.CharsetReader = func(_ string, input io.Reader) (io.Reader, error) { return input, nil }
 	r := &treeReader{decoder: decoder, lines: newRuler(text), words: map[string]string{}}
 	for {
@@ -97,7 +97,7 @@ func readTree(text []byte) (*Element, *Fault) {
 		}
 		fault := r.take(token, offset)
 		if fault == nil && hasUnknown(token) && bytes.Contains(text[offset:decoder.InputOffset()], []byte("&#")) {
-			// A reference to a half of a pair of UTF-16 is let through as the sign for what is no character.
+			// A reference to half of a UTF-16 pair is replaced by U+FFFD.
 			fault = &Fault{Why: "no XML: a reference to what is no character"}
 		}
 		if fault != nil {
@@ -114,7 +114,7 @@ func (r *treeReader) finished(end int) (*Element, *Fault) {
 	return r.root, nil
 }
 
-// syntax tells an error of the XML reader at the place that it had come to.
+// syntax reports an error of the XML reader at its current place.
 func (r *treeReader) syntax(err error) *Fault {
 	why := err.Error()
 	var syntax *xml.SyntaxError
@@ -124,7 +124,7 @@ func (r *treeReader) syntax(err error) *Fault {
 	return &Fault{Place: r.lines.place(int(r.decoder.InputOffset())), Why: "no XML: " + why}
 }
 
-// take takes one token in, which begins at a byte of the text.
+// take takes one token, which begins at a byte of the text.
 func (r *treeReader) take(token xml.Token, offset int) *Fault {
 	switch t := token.(type) {
 	case xml.StartElement:
@@ -170,7 +170,7 @@ func (r *treeReader) start(token xml.StartElement, offset int) *Fault {
 	return nil
 }
 
-// attach puts an element under the one that is open. What stands in an element of other tools is read and let go.
+// attach puts an element under the open one. Content of other tools' elements is dropped.
 func (r *treeReader) attach(e *Element) {
 	if len(r.open) == 0 {
 		r.root = e
@@ -209,7 +209,7 @@ func (r *treeReader) characters(data xml.CharData) *Fault {
 	return nil
 }
 
-// isOfTools tells whether an element is for other tools, so that what stands in it is not kept.
+// isOfTools reports whether an element is for other tools; its content is not kept.
 func isOfTools(e *Element) bool { return e.Tag == "extensionElements" }
 
 func (r *treeReader) word(text string) string {
@@ -220,7 +220,7 @@ func (r *treeReader) word(text string) string {
 	return text
 }
 
-// hasUnknown tells whether a token has the sign for what is no character, U+FFFD.
+// hasUnknown reports whether a token has U+FFFD.
 func hasUnknown(token xml.Token) bool {
 	switch t := token.(type) {
 	case xml.CharData:
@@ -235,7 +235,7 @@ func hasUnknown(token xml.Token) bool {
 	return false
 }
 
-// attributeTwice names an attribute that stands twice.
+// attributeTwice returns a repeated attribute.
 func attributeTwice(attributes []xml.Attr) string {
 	seen := make(map[xml.Name]bool, len(attributes))
 	for _, a := range attributes {
@@ -247,7 +247,7 @@ func attributeTwice(attributes []xml.Attr) string {
 	return ""
 }
 
-// longName is the name of an element where it is too long, else empty.
+// longName returns an element's name if it is too long, else "".
 func longName(attributes []xml.Attr) string {
 	for _, a := range attributes {
 		if a.Name.Local == "name" && len(a.Value) > MostName {

@@ -5,7 +5,7 @@ import (
 	"strings"
 )
 
-// expressions gives the tags of all boxed expressions with their readers.
+// expressions returns the readers of all boxed expressions by tag.
 func (r *reader) expressions(take func(Expression)) map[string]part {
 	unread := func(e *Element) { take(&Unread{e}) }
 	return map[string]part{
@@ -21,7 +21,7 @@ func (r *reader) expressions(take func(Expression)) map[string]part {
 	}
 }
 
-// text reads an element with a text in it.
+// text reads an element with text.
 func (r *reader) text(e *Element) *Text {
 	t := &Text{Element: e, Language: e.Attribute("expressionLanguage"), TypeRef: e.Type()}
 	if t.Language == "" {
@@ -39,7 +39,7 @@ func (r *reader) text(e *Element) *Text {
 	return t
 }
 
-// alone makes a fault of an element that stands in a text.
+// alone reports an element within a text as a fault.
 func (r *reader) alone(e *Element) {
 	for _, child := range e.Children {
 		r.fault(child, child.Tag, fmt.Sprintf("an element stands in %s, where characters alone are due", e.Tag),

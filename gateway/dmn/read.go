@@ -6,7 +6,7 @@ import (
 	"strings"
 )
 
-// versions are the namespaces of DMN with the version of each.
+// versions maps the namespaces of DMN to its versions.
 var versions = map[string]string{
 	"http://www.omg.org/spec/DMN/20151101/dmn.xsd":   "1.1",
 	"http://www.omg.org/spec/DMN/20151101/dmn11.xsd": "1.1",
@@ -16,8 +16,7 @@ var versions = map[string]string{
 	"https://www.omg.org/spec/DMN/20230324/MODEL/":   "1.5",
 }
 
-// Read reads one file, named path. A file that is no DMN is answered by a *Fault, where reading itself fails by the
-// error of the reader.
+// Read reads one file, named path. It returns a *Fault if the file is not DMN, and the reader's error if reading fails.
 func Read(path string, from io.Reader) (*File, error) {
 	raw, err := io.ReadAll(io.LimitReader(from, MostBytes+1))
 	if err != nil {
@@ -39,7 +38,7 @@ func Read(path string, from io.Reader) (*File, error) {
 	return file, nil
 }
 
-// parse gives the root element of a file, where it is that of DMN.
+// parse returns the root element of a DMN file.
 func parse(raw []byte) (*Element, *Fault) {
 	text, fault := asUTF8(raw)
 	if fault != nil {
@@ -63,25 +62,24 @@ func parse(raw []byte) (*Element, *Fault) {
 	return nil, fault
 }
 
-// reader reads the elements of one file.
+// A reader reads the elements of a file.
 type reader struct{ file *File }
 
 func (r *reader) fault(e *Element, text, why, instead string) {
 	r.file.Faults = append(r.file.Faults, &Fault{Place: e.Place, Element: e, Text: text, Why: why, Instead: instead})
 }
 
-// A part is what to do with a child of one tag; nil where it changes no answer and is passed over.
+// A part reads a child with one tag; nil if the child changes no answer and is skipped.
 type part func(child *Element)
 
-// once are the parts of which an element has one at most.
+// once are the parts that an element has at most once.
 var once = map[string]bool{"variable": true, "text": true, "typeRef": true, "allowedValues": true, "typeConstraint": true,
 	"functionItem": true, "inputExpression": true, "inputValues": true, "outputValues": true, "defaultOutputEntry": true,
 	"encapsulatedLogic": true, "parameter": true, "if": true, "then": true, "else": true, "requiredInput": true,
 	"requiredDecision": true, "requiredKnowledge": true}
 
-// parts hands each child to the part of its tag. A child of DMN that has none is a fault, and so is one of another
-// namespace: only extensionElements may have such. So are a second one of what may stand once, and characters outside
-// of an element for them.
+// parts passes each child to the part of its tag. Faults are: unknown children of DMN, children of other namespaces outside
+// extensionElements, repeated children that may be there once, and stray characters.
 func (r *reader) parts(e *Element, known map[string]part) {
 	if stray := strings.TrimSpace(e.Text); stray != "" {
 		r.fault(e, stray, fmt.Sprintf("characters stand in %s, outside of an element for them", e.Tag),
@@ -110,7 +108,7 @@ func (r *reader) parts(e *Element, known map[string]part) {
 	}
 }
 
-// truth is an attribute that is true or false, which may be written as 1 or 0; false where it is left out.
+// truth returns an attribute that is true or false, written also as 1 or 0; false by default.
 func (r *reader) truth(e *Element, name string) bool {
 	switch value := e.Attribute(name); value {
 	case "true", "1":
@@ -158,7 +156,7 @@ func (r *reader) itemDefinition(e *Element) *ItemDefinition {
 	return item
 }
 
-// variable reads an element that has a name and a type.
+// variable reads an element with a name and a type.
 func variable(e *Element) *Variable { return &Variable{Element: e, TypeRef: e.Type()} }
 
 func (r *reader) inputData(e *Element) *InputData {
@@ -201,7 +199,7 @@ func (r *reader) knowledgeRequirement(to *[]*Reference) part {
 	}
 }
 
-// passOver adds what stands in a decision, and changes no answer.
+// passOver adds parts of a decision that change no answer.
 func passOver(known map[string]part) {
 	for _, tag := range []string{"question", "allowedAnswers", "authorityRequirement", "decisionMaker", "decisionOwner",
 		"supportedObjective", "impactedPerformanceIndicator", "usingProcess", "usingTask"} {
@@ -223,7 +221,7 @@ func (r *reader) service(e *Element) *DecisionService {
 
 func reference(e *Element) *Reference { return &Reference{Element: e, Href: e.Attribute("href")} }
 
-// only is what stands in a place for one expression: the second of two is a fault.
+// only returns the expression of a place that takes one: a second one is a fault.
 func (r *reader) only(e *Element, before, x Expression) Expression {
 	if before != nil {
 		r.fault(x.At(), x.At().Tag, fmt.Sprintf("a second expression in %s", e.Tag), "")

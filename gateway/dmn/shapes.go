@@ -6,13 +6,13 @@ import (
 	"strings"
 )
 
-// A Box is where a diagram draws an element: its corner at the top left, its width and its height.
+// A Box is where a diagram draws an element: its top left corner, width and height.
 type Box [4]float64
 
-// mostPlace is how far from the origin of a diagram a box may stand.
+// mostPlace limits how far from the origin a box may be.
 const mostPlace = 1e6
 
-// Boxes are those of the first diagram of the file that draws something, by the ids of the elements that are drawn.
+// Boxes returns the boxes of the first diagram that draws something, by element id.
 func (f *File) Boxes() map[string]Box {
 	for _, part := range f.Root.Children {
 		if part.Tag != "DMNDI" {
@@ -46,7 +46,7 @@ func boxesOf(diagram *Element) map[string]Box {
 	return boxes
 }
 
-// boxOf reads the bounds of a shape, where each of its numbers is one and within reason.
+// boxOf reads the bounds of a shape if its numbers are valid and within limits.
 func boxOf(bounds *Element) (box Box, is bool) {
 	if bounds.Tag != "Bounds" {
 		return box, false

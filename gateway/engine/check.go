@@ -77,7 +77,7 @@ const (
 	givesOption  = "--gives"
 )
 
-// HasTables says whether the engine's check knows tablesOption and givesOption, by its help.
+// HasTables reports whether the engine's check knows tablesOption and givesOption, by its help.
 func HasTables(ctx context.Context, path string) (tables, gives bool) {
 	ctx, stop := context.WithTimeout(ctx, checkPatience)
 	defer stop()
@@ -89,7 +89,7 @@ func HasTables(ctx context.Context, path string) (tables, gives bool) {
 	return tables, gives
 }
 
-// Gives asks what the services of a lawful model and their decisions can give: a line for each. The text may have domains.
+// Gives asks what the services of a valid model and their decisions can give: a line for each. The text may have domains.
 func Gives(ctx context.Context, path string, memory uint64, text []byte) (found []Place, err error) {
 	ctx, stop := context.WithTimeout(ctx, checkPatience)
 	defer stop()
@@ -133,7 +133,7 @@ func ended(err error) error {
 	return err
 }
 
-// askLines returns ask, and returns the lines that the engine writes.
+// askLines is ask, and returns the engine's lines.
 func askLines(ctx context.Context, path string, memory uint64, input []byte, words ...string) (lines []Place, err error) {
 	err = ask(ctx, path, memory, input, func(line []byte, _ bool) error {
 		lines = append(lines, append(Place(nil), line...))
@@ -192,7 +192,7 @@ func takeLines(p *process, take func(line []byte, cut bool) error) (fault error)
 	}
 }
 
-// Try returns a model to a new engine, and says why that refuses it.
+// Try gives a model to a new engine, and returns why it refuses it.
 func Try(ctx context.Context, path string, memory uint64, model *Model) error {
 	ctx, stop := context.WithTimeout(ctx, checkPatience)
 	defer stop()
@@ -206,7 +206,7 @@ func Try(ctx context.Context, path string, memory uint64, model *Model) error {
 	return nil
 }
 
-// Version returns the engine's version, as "0.9.0".
+// Version returns the engine's version, such as "0.9.0".
 func Version(ctx context.Context, path string) (string, error) {
 	ctx, stop := context.WithTimeout(ctx, checkPatience)
 	defer stop()

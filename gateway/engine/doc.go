@@ -1,14 +1,12 @@
 // Package engine finds and runs the engine, the program desk.
 //
-// A Pool has engines, each a process of its own with one worker. What each is asked goes through lanes: names by which
-// the engine knows its clients, the same in every process, since an engine never frees a name. A lane is first in,
-// first out: the engine answers it in the order of its lines, so the n-th answer of a lane is that of its n-th request.
-// A refusal that names no lane is known by the number of its line.
+// A Pool has engines, each a process with one worker. Requests go through lanes: client names that are the same in every
+// process, as an engine never frees a name. A lane is first in, first out: the engine answers it in the order of its lines, so
+// the n-th answer of a lane belongs to its n-th request. A refusal that names no lane is identified by its line number.
 //
-// Each request carries the model under which it is to be answered. An engine is told a model when the next request asks
-// for another one than the last did; requests of older models go first. So after Switch every request that is put in
-// has the new model, in all engines.
+// Each request carries its model. An engine gets a model when the next request has another one than the last did; requests of
+// older models go first. So after Switch every new request has the new model, in all engines.
 //
-// When an engine ends before it was told to, another process takes its place, and what it had not answered is asked
-// again, one request at a time and each under its model. The one at which that engine ends too is given up.
+// When an engine ends unexpectedly, another process takes its place, and its unanswered requests are sent again, one at a time
+// and each under its model. A request at which that engine ends too is given up.
 package engine

@@ -330,7 +330,7 @@ func (e *engine) give(text []byte, model *Model) []byte {
 func (e *engine) read(p *process) error {
 	from, read := bufio.NewReaderSize(p.out, 256<<10), lineReader(readLine)
 	if e.pool.options.Tells {
-		read = readToldLine
+		read = readExplainedLine
 	}
 	var replies []reply
 	var jobs []*Job

@@ -22,15 +22,15 @@ var errShort = errors.New("the engine did not explain each request")
 
 // An Explainer asks `desk explain`, each time in a new process.
 type Explainer struct {
-	// Path is the file of the engine, and Memory the limit of its address space in bytes; 0 is none.
+	// Path is the engine's file, Memory the limit of its address space in bytes; 0 means none.
 	Path   string
 	Memory uint64
 	// Misses asks for each rule that missed, too.
 	Misses bool
 }
 
-// Explain returns how the answers of requests under one model came about. Room says whether that many bytes of
-// decisions may be kept; those of a line over MaxAnswer bytes never are. When the context ends, so does the process.
+// Explain returns how the answers of requests under one model came about. Room reports whether that many bytes of decisions may
+// be kept; those of a line over MaxAnswer bytes never are. When the context ends, so does the process.
 func (e *Explainer) Explain(ctx context.Context, model *Model, jobs []*Job, room func(size int) bool) ([]Explanation, error) {
 	all := make([]Explanation, 0, len(jobs))
 	err := e.Tell(ctx, model, jobs, room, func(it *Explanation) error {

@@ -214,7 +214,7 @@ func (e *engine) evict(owner string) {
 	e.pool.elsewhere(e.number, moved)
 }
 
-// others removes what waits of other owners, except those that leave the other engine to others too.
+// others removes the waiting requests of other owners, except those that leave the other engine to others too.
 func (e *engine) others(owner string, other int) (found []*Job) {
 	isOne := func(job *Job) bool { return job.Owner != owner && e.pool.spared(job.Owner) != other }
 	e.mu.Lock()
@@ -226,7 +226,7 @@ func (e *engine) others(owner string, other int) (found []*Job) {
 	return append(found, e.again.part(isOne)...)
 }
 
-// isAt reports whether all that is out is of an owner.
+// isAt reports whether an owner has everything that is out.
 func (e *engine) isAt(owner string) bool {
 	for at := range e.lanes {
 		for _, job := range e.lanes[at].sent.jobs[e.lanes[at].sent.head:] {

@@ -36,8 +36,8 @@ func Path() (string, error) {
 		return "", fmt.Errorf("%w: finding this program: %v; set %s to its file", ErrNoEngine, err, PathVariable)
 	}
 	var tried []string
-	for _, beside := range []string{installed, "desk"} {
-		path := filepath.Join(filepath.Dir(own), beside)
+	for _, candidate := range []string{installed, "desk"} {
+		path := filepath.Join(filepath.Dir(own), candidate)
 		if path == own {
 			continue
 		}

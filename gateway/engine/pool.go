@@ -10,7 +10,7 @@ import (
 	"time"
 )
 
-// Options say how a pool runs its engines.
+// Options says how a pool runs its engines.
 type Options struct {
 	// Path is the engine's file.
 	Path string
@@ -202,14 +202,13 @@ func (p *Pool) Model() *Model {
 	return p.model
 }
 
-// Switch puts a model in force for all that is put in from now on. It calls beside at that moment, while nothing can be
-// put in.
-func (p *Pool) Switch(model *Model, beside func()) {
+// Switch puts a model in force for everything put in from now on. It calls meanwhile at that moment, while nothing can be put in.
+func (p *Pool) Switch(model *Model, meanwhile func()) {
 	p.modelLock.Lock()
 	defer p.modelLock.Unlock()
 	model.epoch = p.model.epoch + 1
 	p.model = model
-	beside()
+	meanwhile()
 	for _, e := range p.engines {
 		e.aim(model)
 	}
@@ -258,8 +257,8 @@ func (p *Pool) settled() bool {
 	return true
 }
 
-// Close waits until all that was put in is answered, closes each engine's input and waits for its end, which has to be
-// with status 0. Nothing may be put in any more. If the context ends first, the engines are ended.
+// Close waits until everything put in is answered, closes each engine's input and waits for its end, which must have status 0.
+// Nothing may be put in any more. If the context ends first, the engines are ended.
 func (p *Pool) Close(ctx context.Context) error {
 	p.moving.Lock()
 	p.isClosing = true

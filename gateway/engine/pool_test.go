@@ -323,9 +323,9 @@ func TestDroppedAndWaited(t *testing.T) {
 
 func TestCheckAndTry(t *testing.T) {
 	ctx := context.Background()
-	lawful, _, err := Check(ctx, desk(), 0, adding(1).Text)
-	if err != nil || len(lawful.Services) != 1 || lawful.Services[0].Parameters[0] != "a" {
-		t.Errorf("%+v, %v", lawful, err)
+	valid, _, err := Check(ctx, desk(), 0, adding(1).Text)
+	if err != nil || len(valid.Services) != 1 || valid.Services[0].Parameters[0] != "a" {
+		t.Errorf("%+v, %v", valid, err)
 	}
 	var faulty *FaultyModel
 	_, _, err = Check(ctx, desk(), 0, []byte(strings.Replace(string(adding(1).Text), "a + 1", "a +", 1)))

@@ -92,7 +92,7 @@ var (
 func readReply(text []byte, cut bool) (reply, error) {
 	lane, rest := laneOf(text)
 	if lane < 0 || !bytes.HasPrefix(rest, resultKey) {
-		if r, is, err := readTold(text, lane, rest, cut); is || err != nil {
+		if r, is, err := readExplained(text, lane, rest, cut); is || err != nil {
 			return r, err
 		}
 		return readOther(text, lane)

@@ -8,21 +8,21 @@ import (
 
 // A Decided is a decision table on the way to a result, with the rules that decided.
 type Decided struct {
-	// Decision is the word of the decision, and Path the JSON Pointer of the part of its expression that has the table,
-	// as "/result" of a context; empty if the expression is the table.
+	// Decision is the decision's word, Path the JSON Pointer of the part of its expression that has the table, such as
+	// "/result" of a context; empty if the expression is the table.
 	Decision, Path string
-	// Rules are the numbers of the rules, from 1. IsDefault says that no rule hit and some output has its default.
+	// Rules are the numbers of the rules, from 1. IsDefault means that no rule hit and some output has its default.
 	Rules     []int
 	IsDefault bool
 }
 
-// Keys of the lines of `desk explain` whose values are left out of a line that is too long.
+// Keys of lines of `desk explain` whose values are dropped if a line is too long.
 var leftOut = [][]byte{[]byte("inputs"), []byte("decisions")}
 
 var lineKey = []byte(`","line":`)
 
-// readTold reads a reply of `desk explain` to a request that it answered; false if the line is another.
-func readTold(text []byte, lane int, rest []byte, cut bool) (reply, bool, error) {
+// readExplained reads a reply of `desk explain` to an answered request; false for other lines.
+func readExplained(text []byte, lane int, rest []byte, cut bool) (reply, bool, error) {
 	if lane < 0 || !bytes.HasPrefix(rest, lineKey) {
 		return reply{}, false, nil
 	}
@@ -49,15 +49,14 @@ func readTold(text []byte, lane int, rest []byte, cut bool) (reply, bool, error)
 	return r, isAnswer, nil
 }
 
-// DecidedIn finds the tables among the decisions of an explanation that have rules that decided. It goes over the text
-// once.
+// DecidedIn finds the tables with deciding rules among an explanation's decisions. It reads the text once.
 func DecidedIn(decisions []byte) []Decided {
 	w := &walker{text: decisions}
 	w.list(func(int) { w.part("") })
 	return w.all
 }
 
-// A walker goes over the decisions of an explanation. at is where the next value begins, name that of the decision.
+// A walker walks the decisions of an explanation. at is where the next value begins, name the decision's name.
 type walker struct {
 	text []byte
 	at   int
@@ -65,10 +64,10 @@ type walker struct {
 	all  []Decided
 }
 
-// skip goes over a value.
+// skip skips a value.
 func (w *walker) skip() { w.at = valueEnd(w.text, w.at) }
 
-// begins goes into a list or an object; false if another value is there, which is skipped.
+// begins enters a list or object; false if another value is there, which is skipped.
 func (w *walker) begins(with byte) bool {
 	if w.at < len(w.text) && w.text[w.at] == with {
 		w.at++
@@ -78,7 +77,7 @@ func (w *walker) begins(with byte) bool {
 	return false
 }
 
-// more reports whether another part of a list or an object follows, and goes after a comma or the end.
+// more reports whether a list or object has another part, and moves past a comma or the end.
 func (w *walker) more() bool {
 	if w.at >= len(w.text) {
 		return false
@@ -93,7 +92,7 @@ func (w *walker) more() bool {
 	return w.at < len(w.text)
 }
 
-// list hands the place of each item to take, which goes over it.
+// list calls take with the index of each item; take moves past it.
 func (w *walker) list(take func(at int)) {
 	if !w.begins('[') {
 		return
@@ -103,7 +102,7 @@ func (w *walker) list(take func(at int)) {
 	}
 }
 
-// object hands the key of each member to take, which goes over its value.
+// object calls take with the key of each member; take moves past its value.
 func (w *walker) object(take func(key string)) {
 	if !w.begins('{') {
 		return
@@ -120,7 +119,7 @@ func (w *walker) object(take func(key string)) {
 	}
 }
 
-// part goes over a part: a decision, an entry, a member or a result.
+// part reads a part: a decision, an entry, a member or a result.
 func (w *walker) part(path string) {
 	w.object(func(key string) {
 		switch key {
@@ -145,7 +144,7 @@ func (w *walker) part(path string) {
 	})
 }
 
-// table goes over a table, and adds it where a rule or a default of it decided.
+// table reads a table, and adds it if a rule or a default of it decided.
 func (w *walker) table(path string) {
 	it := Decided{Decision: w.name, Path: path}
 	w.object(func(key string) {
@@ -170,9 +169,9 @@ func (w *walker) table(path string) {
 	}
 }
 
-// readToldLine reads a line as readLine does. Of one over MaxAnswer bytes it leaves out the inputs and the decisions;
-// cut says that it is too long all the same.
-func readToldLine(from *bufio.Reader) (text []byte, cut bool, err error) {
+// readExplainedLine reads a line as readLine does. Of one over MaxAnswer bytes it drops the inputs and the decisions; cut means that
+// it is still too long.
+func readExplainedLine(from *bufio.Reader) (text []byte, cut bool, err error) {
 	text, err = from.ReadSlice('\n')
 	if err == nil {
 		return text[:len(text)-1], false, nil
@@ -204,12 +203,11 @@ func readToldLine(from *bufio.Reader) (text []byte, cut bool, err error) {
 // A shortener takes a line in pieces, and keeps it without the values of its keys inputs and decisions.
 type shortener struct {
 	kept []byte
-	// depth is that of the lists and objects that are open; key is the text read last where that may be a key of the
-	// line.
+	// depth is the number of open lists and objects; key is the last text, if that may be a key of the line.
 	depth             int
 	inText, isEscaped bool
 	key               []byte
-	// isOut says that what comes is left out, isFull that over MaxAnswer bytes were to be kept.
+	// isOut means that what follows is dropped, isFull that over MaxAnswer bytes were to be kept.
 	isOut, isFull bool
 }
 
@@ -232,7 +230,7 @@ func (s *shortener) keep(text []byte) {
 	}
 }
 
-// step goes over a byte.
+// step takes a byte.
 func (s *shortener) step(c byte) {
 	switch {
 	case s.isEscaped:

@@ -9,8 +9,8 @@ import (
 	"time"
 )
 
-// What `desk explain` wrote of requests, with the tables that decided, read by hand.
-func TestReadTold(t *testing.T) {
+// Replies of `desk explain` to requests, with the deciding tables, read by hand.
+func TestReadExplained(t *testing.T) {
 	for _, it := range []struct {
 		line  string
 		value string
@@ -32,7 +32,7 @@ func TestReadTold(t *testing.T) {
 			`"inputs":[1],"hits":[{"rule":3,"fault":"limit"}],"defaults":false}}],"fault":"limit","ticket":7}`, "", Limit, false, nil},
 		{`{"client":"lane3","line":6,"model":"a0","service":"s","inputs":{},"explained":"long","result":[],"ticket":7}`, "[]", Result, true, nil},
 	} {
-		replies, err := repliesBy(readToldLine, bufio.NewReader(strings.NewReader(it.line+"\n")), nil)
+		replies, err := repliesBy(readExplainedLine, bufio.NewReader(strings.NewReader(it.line+"\n")), nil)
 		if err != nil || len(replies) != 1 {
 			t.Fatalf("%s: %v %v", it.line, replies, err)
 		}
@@ -46,15 +46,15 @@ func TestReadTold(t *testing.T) {
 	}
 }
 
-// Of a line of 40 MB the result is read, whatever the texts before it have; of one whose result is as long nothing is.
-func TestReadLongTold(t *testing.T) {
+// The result of a line of 40 MB is read, whatever texts come before it; a result as long isn't.
+func TestReadLongExplained(t *testing.T) {
 	part := strings.Repeat(`{"name":"d\\\"]},","value":["x,}",{"decisions":[1]}]},`, 800_000)
 	line := `{"client":"lane3","line":2,"model":"a0","service":"s","inputs":{"a":"} , \" ]"},"decisions":[` + part + `{"name":"e"}],"result":{"a":%s},"ticket":7}` + "\n"
 	for _, it := range []struct{ value, due string }{
 		{`"],}"`, `{"a":"],}"}`}, {`"` + strings.Repeat("x", MaxAnswer) + `"`, ""},
 	} {
 		from := bufio.NewReaderSize(strings.NewReader(fmt.Sprintf(line, it.value)), 256<<10)
-		replies, err := repliesBy(readToldLine, from, nil)
+		replies, err := repliesBy(readExplainedLine, from, nil)
 		if err != nil || len(replies) != 1 {
 			t.Fatalf("%v %v", replies, err)
 		}
@@ -66,8 +66,7 @@ func TestReadLongTold(t *testing.T) {
 	}
 }
 
-// What is decided in parts that are nested deep is found in one walk: it takes as long as to go over the text a few
-// times.
+// Decisions in deeply nested parts are found in one walk: it takes as long as reading the text a few times.
 func TestDeepExplanations(t *testing.T) {
 	const depth = 60
 	value := `"` + strings.Repeat("x", 1<<20) + `"`

@@ -33,23 +33,23 @@ func (p *page) boxed(pointer string, e model.Expression, s *scope) *element {
 	return p.literal("literalExpression", "null", "")
 }
 
-// literal is an element with an expression's text.
+// literal returns an element with an expression's text.
 func (p *page) literal(name, content, typeRef string) *element {
 	return tag(name, "id", p.id("expression"), "typeRef", typeRef).add(text(content))
 }
 
-// expression writes the text of a place, and refuses it where that can't be done.
+// expression writes the text of a place, or refuses it.
 func (p *page) expression(pointer, content string, s *scope) string {
 	return p.written(pointer, content, s.expression)
 }
 
-// ofFile is the text of the first file at a place, where such texts are written and there is one.
+// ofFile returns the text that the first file has at a place, if such texts are written.
 func (p *page) ofFile(pointer string) (text string, is bool) {
 	text, is = p.File.Texts[pointer]
 	return text, is && p.IsWritten
 }
 
-// inner is what the first file has in place of a context that the translation made, where its texts are written.
+// inner returns what the first file has instead of a context that the translation made, if its texts are written.
 func (p *page) inner(c model.Context, pointer string) (inner model.Expression, at string, is bool) {
 	if !p.IsWritten {
 		return nil, "", false
@@ -59,7 +59,7 @@ func (p *page) inner(c model.Context, pointer string) (inner model.Expression, a
 	return own.Inner(c, pointer)
 }
 
-// around is a scope in which what only the translation has is bound, whose texts are not written.
+// around returns a scope with the names that only the translation has; their texts are not written.
 func (p *page) around(c model.Context, s *scope) *scope {
 	s = s.inner()
 	for _, entry := range c.Entries {
@@ -103,13 +103,13 @@ func (p *page) context(pointer string, c model.Context, s *scope) *element {
 	return e
 }
 
-// policies are the hit policies and aggregations of the standard.
+// policies are the standard's hit policies and aggregations.
 var policies = map[string][2]string{
 	"U": {"UNIQUE"}, "A": {"ANY"}, "P": {"PRIORITY"}, "F": {"FIRST"}, "R": {"RULE ORDER"}, "O": {"OUTPUT ORDER"},
 	"C": {"COLLECT"}, "C+": {"COLLECT", "SUM"}, "C<": {"COLLECT", "MIN"}, "C>": {"COLLECT", "MAX"}, "C#": {"COLLECT", "COUNT"},
 }
 
-// policy is the one of a table: a priority without values is the order of the rules.
+// policy returns the policy of a table. Priority without values becomes the order of the rules.
 func policy(t *model.Table) [2]string {
 	for _, output := range t.Outputs {
 		if len(output.Values) > 0 {
@@ -125,8 +125,8 @@ func policy(t *model.Table) [2]string {
 	return policies[t.Hit]
 }
 
-// table writes a decision table. A default of a table that gives a list stands outside of it: here it is given as it is,
-// and the standard doesn't say whether it is put into a list.
+// table writes a decision table. If a table gives a list, its default is written outside of it: here the default is given as it
+// is, and the standard doesn't say whether it goes into a list.
 func (p *page) table(pointer string, t *model.Table, s *scope) *element {
 	if hasDefault(t) && (t.Hit == "R" || t.Hit == "O" || t.Hit == "C") {
 		return p.withDefault(pointer, t, s)
@@ -161,7 +161,7 @@ func hasDefault(t *model.Table) bool {
 	return false
 }
 
-// alwaysHits tells whether some rule has no test.
+// alwaysHits reports whether some rule has no test.
 func alwaysHits(t *model.Table) bool {
 	for _, rule := range t.Rules {
 		if strings.Trim(strings.Join(rule.When, ""), "- \t\r\n") == "" {
@@ -171,7 +171,7 @@ func alwaysHits(t *model.Table) bool {
 	return false
 }
 
-// withDefault writes the table without its default as an entry, and behind it the default where no rule hits.
+// withDefault writes the table without its default as an entry, followed by the default for the case that no rule hits.
 func (p *page) withDefault(pointer string, t *model.Table, s *scope) *element {
 	bare := *t
 	bare.Outputs = append([]model.Output(nil), t.Outputs...)
@@ -189,7 +189,7 @@ func (p *page) withDefault(pointer string, t *model.Table, s *scope) *element {
 	return tag("context", "id", p.id("context")).add(entry, result)
 }
 
-// taken tells whether a name is bound or spelled so.
+// taken reports whether a name is bound, or another name is spelled like it.
 func (s *scope) taken(name string) bool {
 	for ; s != nil; s = s.outer {
 		for word := range s.bound.shapes {
@@ -232,14 +232,14 @@ func (p *page) output(pointer string, t *model.Table, column int, s *scope) *ele
 	case output.Default != nil:
 		e.add(p.literal("defaultOutputEntry", p.expression(place+"/default", *output.Default, s), ""))
 	case t.Hit == "C#" && !p.Imported && !alwaysHits(t):
-		// Without it some tools take the count of no hits for 0, which is null here and in the standard.
+		// Without it some tools give 0 for a count without hits, which is null here and in the standard.
 		e.add(p.literal("defaultOutputEntry", "null", ""))
 	}
 	return e
 }
 
-// keepsValues tells whether the output values are written. In the standard they are all that the column may give, so
-// they are left out where a rule may give another one and they order nothing; where they order they are refused then.
+// keepsValues reports whether the output values are written. In the standard a column gives no others, so they are left out if
+// a rule may give another one and they don't order anything. If they do, they are refused.
 func (p *page) keepsValues(pointer string, t *model.Table, column int) bool {
 	output := t.Outputs[column]
 	if len(output.Values) == 0 {
@@ -276,7 +276,7 @@ func givesListed(t *model.Table, column int) bool {
 	return true
 }
 
-// squeezed is a literal without the blanks round it and behind its sign.
+// squeezed returns a literal without the blanks around it and after its sign.
 func squeezed(literal string) string {
 	const blanks = " \t\r\n"
 	literal = strings.Trim(literal, blanks)

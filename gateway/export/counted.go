@@ -7,7 +7,7 @@ import (
 	"gateway/decimal"
 )
 
-// findUnits notes the inputs and decisions whose numbers the model counts in units, and so dates and durations.
+// findUnits notes the inputs and decisions that the model counts in units, as it does dates and durations.
 func (s *Source) findUnits() {
 	for word, schema := range s.Types {
 		if schema.isCounted() {
@@ -17,7 +17,7 @@ func (s *Source) findUnits() {
 	sort.Strings(s.Counted)
 }
 
-// CountedNames are the names in the first file of what is counted.
+// CountedNames returns the first file's names of what is counted.
 func (s *Source) CountedNames() []string {
 	names := make([]string, len(s.Counted))
 	for at, word := range s.Counted {
@@ -26,7 +26,7 @@ func (s *Source) CountedNames() []string {
 	return names
 }
 
-// wholeTypes are the types of a file that has whole numbers of units: without the allowed values of their types, which are decimals.
+// wholeTypes returns the types for a file with whole numbers of units. It drops the allowed values, which are decimals.
 func (s *Source) wholeTypes() map[string]Schema {
 	types := make(map[string]Schema, len(s.Types))
 	for word, schema := range s.Types {
@@ -37,7 +37,7 @@ func (s *Source) wholeTypes() map[string]Schema {
 	return types
 }
 
-// Decimals are how many decimals the numbers of each input have, by its name in the file, and those of its parts by a.b.
+// Decimals returns the number of decimals of each input by its name in the file, and of its parts by a.b.
 func (s *Source) Decimals() map[string]int {
 	found := map[string]int{}
 	for _, word := range s.Model.Inputs {
@@ -71,7 +71,7 @@ func (s Schema) isCounted() bool {
 	return false
 }
 
-// withoutValues is a schema whose counted numbers have no allowed values.
+// withoutValues returns a schema whose counted numbers have no allowed values.
 func (s Schema) withoutValues() Schema {
 	if s.MultipleOf != "" || s.Per != "" || s.Format != "" {
 		s.Enum, s.Minimum, s.Above, s.Maximum, s.Below = nil, "", "", "", ""

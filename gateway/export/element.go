@@ -4,19 +4,18 @@ import (
 	"strings"
 )
 
-// An element is an element of the file that is written. Its name and those of its attributes have their prefixes.
+// An element is an element of the written file. Its name and attribute names have their prefixes.
 type element struct {
 	name       string
 	attributes []attribute
-	// content is its text; an element has a text or children.
+	// content is its text. An element has either text or children.
 	content  string
 	children []*element
 }
 
 type attribute struct{ name, value string }
 
-// tag makes an element of a name, with attributes as pairs of names and values. An attribute without a value is left
-// out.
+// tag makes an element with a name, and attributes as pairs of name and value. It leaves out attributes without a value.
 func tag(name string, pairs ...string) *element {
 	e := &element{name: name}
 	for i := 0; i+1 < len(pairs); i += 2 {
@@ -27,19 +26,19 @@ func tag(name string, pairs ...string) *element {
 	return e
 }
 
-// add puts elements into one, and gives it.
+// add adds children to an element, and returns it.
 func (e *element) add(children ...*element) *element {
 	e.children = append(e.children, children...)
 	return e
 }
 
-// text is the element text, in which FEEL stands.
+// text returns a text element with FEEL in it.
 func text(content string) *element {
 	return &element{name: "text", content: content}
 }
 
-// file is the bytes of a file with this root. encoding/xml would write each quotation mark of a rule as &#34;, and no
-// empty element short, which people have to read.
+// file returns the bytes of a file with this root. encoding/xml would write each quotation mark of a rule as &#34; and empty
+// elements in long form, which is hard to read.
 func (e *element) file() []byte {
 	var out strings.Builder
 	out.WriteString(`<?xml version="1.0" encoding="UTF-8"?>` + "\n")
@@ -47,7 +46,7 @@ func (e *element) file() []byte {
 	return []byte(out.String())
 }
 
-// Characters that would be taken for a sign of XML, or changed by a reader of it.
+// Characters that XML uses as signs, or that a reader would change.
 var (
 	inText      = strings.NewReplacer("&", "&amp;", "<", "&lt;", ">", "&gt;", "\r", "&#13;")
 	inAttribute = strings.NewReplacer("&", "&amp;", "<", "&lt;", `"`, "&quot;", "\t", "&#9;", "\n", "&#10;", "\r", "&#13;")

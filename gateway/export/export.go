@@ -1,12 +1,11 @@
-// Package export writes a model of ours as a file of DMN 1.3, with a diagram.
+// Package export writes a model as a DMN 1.3 file with a diagram.
 //
-// The file means in the standard what the model means here, or the place is refused. Where a text means something else
-// in the standard it is written anew: a comparison with the input as "? = (e)", a plus of what may be two texts as "- -",
-// sum, min, max and count of what may be no list behind a condition, a priority without output values as FIRST. Two
-// things can't be written: the limits of values (an answer "limit" here is a greater value, or none, elsewhere), and what
-// the standard leaves open.
+// The file means the same in the standard as here, or the place is refused. A text that means something else in the standard is
+// rewritten: a comparison with the input becomes "? = (e)", a plus of two possible texts "- -", sum, min, max and count of a
+// possible single value get a condition, and a priority without output values becomes FIRST. Two things can't be written: the
+// limits of values (an answer "limit" here is a greater value, or none, elsewhere), and what the standard leaves open.
 //
-// The model has to be lawful: the engine tells that (desk check).
+// The model must be valid. Check that with the engine (desk check).
 package export
 
 import (
@@ -17,34 +16,34 @@ import (
 	"gateway/model"
 )
 
-// A Source is what is exported: a model, and what an import of it told besides.
+// A Source is a model to export, and what an import of it reported.
 type Source struct {
 	Model *model.Model
-	// Names has how a word is spelled in the file; a word without a line is spelled as it is.
+	// Names maps a word to its spelling in the file. Other words are spelled as they are.
 	Names map[string]string
-	// File has the texts of the first file. Where IsWritten they are written, in place of those of the model, which counts in units.
+	// File has the texts of the first file. If IsWritten is set they are written instead of the model's, which count in units.
 	File      model.Spelling
 	IsWritten bool
-	// Types has the JSON Schema of the values of an input or a decision, by its word.
+	// Types has the JSON Schemas of inputs and decisions, by word.
 	Types map[string]Schema
-	// Counted are the inputs and decisions whose numbers the model counts in units: but where IsWritten the file has whole numbers of
-	// these.
+	// Counted lists the inputs and decisions that the model counts in units. With IsWritten, it lists those that have whole
+	// numbers of units in the file.
 	Counted []string
 	// Title is the name of the model; it may be empty.
 	Title string
-	// Imported tells that the model came from a file.
+	// Imported means that the model came from a file.
 	Imported bool
-	// Typed tells that decisions and outputs get the types that are known of them, and not the inputs alone.
+	// Typed means that decisions and outputs get their known types too, not just inputs.
 	Typed bool
 }
 
-// A Refusal is a place of the model that can't be written so that the standard means the same.
+// A Refusal is a place of the model that can't be written with the same meaning in the standard.
 type Refusal struct {
 	// Pointer is the place, as a JSON Pointer into the model.
 	Pointer string
-	// Text is what stands there; it may be empty.
+	// Text is what is there; it may be empty.
 	Text string
-	// Why tells why, Instead what to do; Instead may be empty.
+	// Why gives the reason, Instead says what to do; Instead may be empty.
 	Why, Instead string
 }
 
@@ -60,7 +59,7 @@ func (r Refusal) String() string {
 	return line
 }
 
-// Read reads a model, {"model":M}, or the output of an import.
+// Read reads a model, {"model":M}, or an import's output.
 func Read(data []byte) (Source, error) {
 	var whole struct {
 		Model  json.RawMessage   `json:"model"`
@@ -86,7 +85,7 @@ func Read(data []byte) (Source, error) {
 	return source, err
 }
 
-// File is the model as a file. Where there are refusals it is nil.
+// File returns the model as a file. It is nil if there are refusals.
 func File(source Source) ([]byte, []Refusal) {
 	p := newPage(source)
 	root := p.definitions()
@@ -96,7 +95,7 @@ func File(source Source) ([]byte, []Refusal) {
 	return root.file(), nil
 }
 
-// Namespaces of DMN 1.3, and the one of what is written here.
+// Namespaces of DMN 1.3, and that of the written model.
 const (
 	modelSpace   = "https://www.omg.org/spec/DMN/20191111/MODEL/"
 	diagramSpace = "https://www.omg.org/spec/DMN/20191111/DMNDI/"
@@ -108,10 +107,10 @@ const (
 // A requirement is an informationRequirement: what needs what.
 type requirement struct{ id, needed, by string }
 
-// A page is one file while it is written.
+// A page is a file being written.
 type page struct {
 	Source
-	// decisions are those of the model by their words.
+	// decisions has the model's decisions by word.
 	decisions map[string]*model.Decision
 	services  []model.Service
 	shapes    map[string]shape
@@ -153,7 +152,7 @@ func (p *page) refuse(pointer, text, why, instead string) {
 	p.refusals = append(p.refusals, Refusal{pointer, text, why, instead})
 }
 
-// id is an id of a kind, numbered from 1.
+// id returns an id of a kind, numbered from 1.
 func (p *page) id(kind string) string {
 	p.counts[kind]++
 	return kind + "_" + strconv.Itoa(p.counts[kind])
@@ -220,7 +219,7 @@ func (p *page) requires(needed, by string) *element {
 	return tag("informationRequirement", "id", r.id).add(tag(kind, "href", "#"+p.ids.node(needed)))
 }
 
-// shape is what is known of the value of an input or a decision.
+// shape returns what is known of the value of an input or decision.
 func (p *page) shape(word string) shape {
 	if s, known := p.shapes[word]; known {
 		return s

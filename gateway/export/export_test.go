@@ -8,8 +8,8 @@ import (
 	"gateway/model"
 )
 
-// place is a scope with: anything a and b, a number n, a text s, a boolean f, a list of numbers l, a list of anything m, a
-// context c with the entry "x y", and two names that run into each other with a third one.
+// place returns a scope with: anything a and b, a number n, a text s, a boolean f, a list of numbers l, a list of anything m, a
+// context c with the entry "x y", and two names that joined by a minus spell a third one.
 func place() *scope {
 	return placeOf(map[string]shape{
 		"a": anything, "b": anything, "n": number, "s": {kinds: isText | isNull}, "f": condition,
@@ -29,11 +29,11 @@ func placeOf(bound map[string]shape, spelled map[string]string) *scope {
 
 func TestAnExpressionMeansTheSameInTheStandard(t *testing.T) {
 	for text, due := range map[string]string{
-		// What means the same stays as it is, with its blanks and parentheses.
+		// Texts that mean the same stay as they are, with their blanks and parentheses.
 		"if  (n > 1) and f then [n, 2] else null": "if  (n > 1) and f then [n, 2] else null",
 		"n between 1 and 2 or not(f)":             "n between 1 and 2 or not(f)",
 		"-n * 2 - abs(a)":                         "-n * 2 - abs(a)",
-		// Names are those of the file; one that is bound nowhere is null.
+		// Names are those of the file; an unbound one is null.
 		"Age_in + c.x_y":    "Age in years + c.x y",
 		"unknown = n":       "null = n",
 		"modulo(Age_in, 3)": "modulo(Age in years, 3)",
@@ -49,7 +49,7 @@ func TestAnExpressionMeansTheSameInTheStandard(t *testing.T) {
 		"sum(l) + a":                 "sum(l) + a",
 		"n - (a + b)":                "n - (a - -b)",
 		"if f then a + s else n + s": "if f then a - -s else n + s",
-		// A single value is no list, and texts have no least.
+		// A single value is not a list, and texts have no least.
 		"sum(l)":      "sum(l)",
 		"sum(n)":      "null",
 		"sum([a])":    "sum([a])",
@@ -64,7 +64,7 @@ func TestAnExpressionMeansTheSameInTheStandard(t *testing.T) {
 		"if count(a) >= 0 then sum(a) else sum([b])": "if (if (a) instance of list<Any> then count(a) else null) >= 0 then " +
 			"(if (a) instance of list<Any> then sum(a) else null) else sum([b])",
 		"1 + count( a )": "1 + (if (a) instance of list<Any> then count( a ) else null)",
-		// What a literal may hold here alone is escaped.
+		// Characters that only our literals may have are escaped.
 		"\"a\nb\\\"\"": `"a\nb\""`,
 		"\"\x0b\"":     `"\u000b"`,
 	} {
@@ -91,7 +91,7 @@ func TestUnaryTestsMeanTheSameInTheStandard(t *testing.T) {
 		{anything, "f, 1", "? = (f), 1"},
 		{anything, "not(f) = true", "? = (not(f) = true)"},
 		{anything, "a", "? = (a) or (a) instance of list<Any> and list contains(a, ?)"},
-		// In a negation nothing is unknown.
+		// Nothing in a negation is unknown.
 		{number, "not(-3, null, n, < 2)", "not(-3, null, n, < 2)"},
 		{shape{kinds: isText}, `not("a", null)`, `not("a", null)`},
 		{condition, "not(true)", "not(true)"},
@@ -108,7 +108,7 @@ func TestUnaryTestsMeanTheSameInTheStandard(t *testing.T) {
 }
 
 func TestWhatCantBeWrittenIsRefused(t *testing.T) {
-	// Between the names net and a the sign would make the name net-a of them.
+	// With a plain minus between them, net and a would become the name net-a.
 	for _, text := range []string{"net-a", "net - a"} {
 		if got, err := place().expression(text); err == nil {
 			t.Errorf("%s: %s", text, got)
@@ -124,7 +124,7 @@ func TestWhatCantBeWrittenIsRefused(t *testing.T) {
 	}
 }
 
-// written is the file of one decision over the inputs a and b.
+// written returns the file of one decision over the inputs a and b.
 func written(t *testing.T, expr string) (string, []Refusal) {
 	t.Helper()
 	source, err := Read([]byte(`{"inputs":["a","b"],"decisions":[{"name":"d","needs":["a","b"],"expr":` + expr + `}],"services":[]}`))
@@ -150,15 +150,15 @@ func TestATableMeansTheSameInTheStandard(t *testing.T) {
 		{table("O", `{"name":"r"}`, one), `hitPolicy="RULE ORDER"`, ""},
 		{table("P", `{"name":"r","values":["2"," 1 "]}`, one+","+two), `hitPolicy="PRIORITY"`, ""},
 		{table("P", `{"name":"r","values":["2","1"]}`, one), "<text>2, 1</text>", ""},
-		// Values that order nothing would forbid what isn't listed.
+		// Values that don't order anything would forbid the others.
 		{table("U", `{"name":"r","values":["2"]}`, one), "", "outputValues"},
 		{table("U", `{"name":"r","values":["1"],"default":"7"}`, one), "", "outputValues"},
 		{table("U", `{"name":"r","values":["1","7"],"default":"7"}`, one), "defaultOutputEntry", "contextEntry"},
-		// The count of no hits is null.
+		// The count without hits is null.
 		{table("C#", `{"name":"r"}`, two), "<defaultOutputEntry", ""},
 		{table("C#", `{"name":"r"}`, one), "", "defaultOutputEntry"},
 		{table("C#", `{"name":"r","default":"0"}`, two), "<text>0</text>", "contextEntry"},
-		// A default is put into no list.
+		// A default is not put into a list.
 		{table("C", `{"name":"r","default":"7"}`, two), "<text>if hits = null then (7) else hits</text>", "defaultOutputEntry"},
 		{table("O", `{"name":"r","default":"7"},{"name":"q"}`, `{"when":["1"],"then":["1","2"]}`),
 			`<text>if hits = null then {"r": (7), "q": null} else hits</text>`, "defaultOutputEntry"},
@@ -177,7 +177,7 @@ func TestAPriorityOverWhatIsNotListedIsRefused(t *testing.T) {
 	}
 }
 
-func TestAllPlacesAreToldInOneRun(t *testing.T) {
+func TestAllPlacesAreReportedInOneRun(t *testing.T) {
 	source, err := Read([]byte(`{"inputs":["for","count"],"decisions":[{"name":"d","needs":["count"],"expr":{"list":["count([])","1"]}}],"services":[]}`))
 	if err != nil {
 		t.Fatal(err)

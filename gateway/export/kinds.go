@@ -19,12 +19,12 @@ const (
 	isAnything = isNull | isBoolean | isNumber | isText | isList | isContext
 )
 
-// A shape is what is known of the values that an expression may have.
+// A shape is what is known of an expression's values.
 type shape struct {
 	kinds
-	// members is what is known of the members of a list; nil where nothing is.
+	// members is what is known of a list's members, or nil.
 	members *shape
-	// entries is what is known of the entries of a context; nil where nothing is.
+	// entries is what is known of a context's entries, or nil.
 	entries map[string]shape
 }
 
@@ -36,7 +36,7 @@ var (
 
 func (s shape) maybe(k kinds) bool { return s.kinds&k != 0 }
 
-// either is what is known of a value that has one of two shapes.
+// either returns what is known of a value with one of two shapes.
 func (s shape) either(other shape) shape {
 	both := shape{kinds: s.kinds | other.kinds, members: s.members, entries: s.entries}
 	switch {
@@ -62,7 +62,7 @@ func eitherMember(a, b *shape) *shape {
 	return &both
 }
 
-// member is what is known of a member of the list that a value is.
+// member returns what is known of a list's members.
 func (s shape) member() shape {
 	if s.members == nil {
 		return anything
@@ -70,7 +70,7 @@ func (s shape) member() shape {
 	return *s.members
 }
 
-// path is what is known of the entry that a path goes to.
+// path returns what is known of the entry that a path leads to.
 func (s shape) path(name string) shape {
 	var found shape
 	if s.maybe(isAnything &^ (isContext | isList)) {
@@ -96,15 +96,15 @@ func (s shape) path(name string) shape {
 	return found
 }
 
-// names are the names that are bound at a place, with what is known of their values. A name that is missing is null.
+// names holds the names bound at a place, with what is known of their values. A missing name is null.
 type names struct {
 	outer  *names
 	shapes map[string]shape
-	// reads has the names for the reader of texts.
+	// reads has the names for the parser.
 	reads *feel.Scope
 }
 
-// newNames is a place inside another one, which may be nil.
+// newNames returns a place inside outer, which may be nil.
 func newNames(outer *names) *names {
 	n := &names{outer: outer, shapes: map[string]shape{}}
 	if outer != nil {
@@ -115,7 +115,7 @@ func newNames(outer *names) *names {
 	return n
 }
 
-// bind binds a name; what is bound outside under this name is hidden.
+// bind binds a name, and hides an outer one.
 func (n *names) bind(name string, s shape) {
 	n.shapes[name] = s
 	n.reads.Add(name)
@@ -130,7 +130,7 @@ func (n *names) find(name string) (shape, bool) {
 	return shape{}, false
 }
 
-// of is what is known of the value of an expression of ours.
+// of returns what is known of the value of one of our expressions.
 func (n *names) of(node feel.Node) shape {
 	switch e := node.(type) {
 	case *feel.Number, *feel.Negation:
@@ -177,7 +177,7 @@ func (n *names) ofList(list *feel.List) shape {
 	return shape{kinds: isList, members: &member}
 }
 
-// function is the name of the function that a call calls.
+// function returns the name of the called function.
 func function(call *feel.Call) string {
 	if name, ok := call.Function.(*feel.Name); ok {
 		return name.Name
@@ -185,7 +185,7 @@ func function(call *feel.Call) string {
 	return ""
 }
 
-// ofText is what is known of the value of a text, anything where it can't be read.
+// ofText returns what is known of the value of a text: anything if it has no reading.
 func (n *names) ofText(text string) shape {
 	node, fault := feel.Expression(text, n.reads, nil)
 	if fault != nil {
@@ -194,7 +194,7 @@ func (n *names) ofText(text string) shape {
 	return n.of(node)
 }
 
-// ofBoxed is what is known of the value of a boxed expression.
+// ofBoxed returns what is known of the value of a boxed expression.
 func (n *names) ofBoxed(e model.Expression) shape {
 	switch e := e.(type) {
 	case model.Literal:
@@ -246,7 +246,7 @@ func (n *names) ofTable(t *model.Table) shape {
 	return hit.either(n.ofDefaults(t)).either(shape{kinds: isNull})
 }
 
-// ofHit is what is known of the output of a rule that hits.
+// ofHit returns what is known of the output of a rule that hits.
 func (n *names) ofHit(t *model.Table) shape {
 	entries := map[string]shape{}
 	for i, output := range t.Outputs {
@@ -268,7 +268,7 @@ func (n *names) ofColumn(t *model.Table, column int) shape {
 	return found
 }
 
-// ofDefaults is what is known of the result of a table where no rule hits.
+// ofDefaults returns what is known of the result of a table if no rule hits.
 func (n *names) ofDefaults(t *model.Table) shape {
 	entries := map[string]shape{}
 	found := false

@@ -6,21 +6,21 @@ import (
 	"gateway/model"
 )
 
-// A knowledge is business knowledge of the first file. In the model each call of it is a context, whose entries are its parameters and
-// whose result is its body.
+// A knowledge is business knowledge of the first file. In the model each call of it is a context: its parameters are entries,
+// its body the result.
 type knowledge struct {
 	id, name string
-	// pointer is the place of one of its calls, and call what stands there.
+	// pointer is the place of one of its calls, call what is there.
 	pointer string
 	call    model.Context
 	// needs is the business knowledge that the body calls.
 	needs []*knowledge
 }
 
-// key is what the diagram knows it by; no word of a model is one.
+// key returns its name in the diagram, which no word of a model can be.
 func (k *knowledge) key() string { return "#" + k.id }
 
-// calls finds the business knowledge that an expression calls, where the texts of the first file are written.
+// calls finds the business knowledge that an expression calls, if the first file's texts are written.
 func (p *page) calls(pointer string, e model.Expression) (found []*knowledge) {
 	if !p.IsWritten {
 		return nil
@@ -44,7 +44,7 @@ func (p *page) calls(pointer string, e model.Expression) (found []*knowledge) {
 	return found
 }
 
-// isCall tells whether an entry is a call: it and its parameters have names of the file within one decision.
+// isCall reports whether an entry is a call: within a decision, the entry and its parameters have names of the file.
 func (p *page) isCall(entry model.Entry) bool {
 	call, is := entry.Expr.(model.Context)
 	_, isLocal := p.File.Locals[entry.Name]
@@ -54,7 +54,7 @@ func (p *page) isCall(entry model.Entry) bool {
 	return is && isLocal && call.Result != nil && len(call.Entries) > 0
 }
 
-// called is the business knowledge of a call.
+// called returns the business knowledge of a call.
 func (p *page) called(word, pointer string, call model.Context) *knowledge {
 	name := p.File.Name(word)
 	for _, k := range p.knowledge {
@@ -68,7 +68,7 @@ func (p *page) called(word, pointer string, call model.Context) *knowledge {
 	return k
 }
 
-// requiresKnowledge are the requirements of what calls business knowledge, each once.
+// requiresKnowledge returns the requirements of a caller of business knowledge, each once.
 func (p *page) requiresKnowledge(all []*knowledge, by string) (made []*element) {
 	seen := map[*knowledge]bool{}
 	for _, k := range all {
@@ -83,7 +83,7 @@ func (p *page) requiresKnowledge(all []*knowledge, by string) (made []*element) 
 	return made
 }
 
-// business is the element of business knowledge.
+// business returns the element of business knowledge.
 func (p *page) business(k *knowledge) *element {
 	logic := tag("encapsulatedLogic", "id", p.id("logic"))
 	s := newScope(p.words)

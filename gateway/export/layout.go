@@ -5,7 +5,7 @@ import (
 	"strconv"
 )
 
-// A box is a shape of the diagram, or its place in a layer while it is laid out.
+// A box is a shape of the diagram, or its place in a layer during layout.
 type box struct {
 	x, y, width, height int
 }
@@ -19,15 +19,15 @@ const (
 	margin                        = 80
 )
 
-// A graph is what is drawn: nodes by their words, and what each needs.
+// A graph is what is drawn: nodes by word, and what each needs.
 type graph struct {
 	inputs    []string
 	decisions []string
 	needs     map[string][]string
 }
 
-// boxes lays the graph out in layers: the inputs at the bottom, each decision above all that it needs. In a layer each
-// node stands near the middle of what it needs, so that few lines cross. The graph has no cycle.
+// boxes lays out the graph in layers, with inputs at the bottom and each decision above all that it needs. Within a layer each
+// node is near the middle of what it needs, so that few lines cross. The graph has no cycle.
 func (g graph) boxes() map[string]box {
 	layers := g.layers()
 	places := map[string]float64{}
@@ -44,7 +44,7 @@ func (g graph) boxes() map[string]box {
 	return boxes
 }
 
-// layers are the nodes by how long the longest way down from them is.
+// layers returns the nodes by the length of the longest path down from them.
 func (g graph) layers() [][]string {
 	depths := map[string]int{}
 	layers := [][]string{append([]string(nil), g.inputs...)}
@@ -58,7 +58,7 @@ func (g graph) layers() [][]string {
 	return layers
 }
 
-// depth is 0 for an input, and one more than the deepest that it needs for a decision; a decision is at least 1.
+// depth returns 0 for an input, and for a decision one more than the deepest of what it needs, at least 1.
 func (g graph) depth(word string, known map[string]int) int {
 	if depth, found := known[word]; found {
 		return depth
@@ -77,7 +77,7 @@ func (g graph) depth(word string, known map[string]int) int {
 	return deepest + 1
 }
 
-// order puts the nodes of a layer by the middle of what each needs.
+// order sorts the nodes of a layer by the middle of what each needs.
 func order(layer []string, places map[string]float64, needs map[string][]string) {
 	middles := map[string]float64{}
 	for i, word := range layer {
@@ -107,7 +107,7 @@ func widest(layers [][]string) int {
 	return most
 }
 
-// box is the shape of a node at a place from the middle, in a row from the top. Rows stand below that of the services.
+// box returns the shape of a node at a place from the middle, in a row from the top. Rows are below the services.
 func (g graph) box(word string, place float64, most, row int) box {
 	width, height := decisionWidth, decisionHeight
 	if g.needs[word] == nil {
@@ -117,7 +117,7 @@ func (g graph) box(word string, place float64, most, row int) box {
 	return box{center - width/2, margin + layerHeight*(row+1) + (decisionHeight-height)/2, width, height}
 }
 
-// diagram draws the services in a row, collapsed, below them the graph, and at the bottom business knowledge.
+// diagram draws the services in a row, collapsed, then the graph, and business knowledge at the bottom.
 func (p *page) diagram() *element {
 	g := graph{inputs: p.Model.Inputs, needs: map[string][]string{}}
 	for _, d := range p.Model.Decisions {
@@ -143,14 +143,14 @@ func (p *page) diagram() *element {
 	return tag("dmndi:DMNDI").add(diagram)
 }
 
-// drawn is the shape of an element in a box.
+// drawn returns the shape of an element in a box.
 func drawn(id, of string, b box, more ...string) *element {
 	bounds := tag("dc:Bounds", "height", strconv.Itoa(b.height), "width", strconv.Itoa(b.width), "x", strconv.Itoa(b.x),
 		"y", strconv.Itoa(b.y))
 	return tag("dmndi:DMNShape", append([]string{"id", id, "dmnElementRef", of}, more...)...).add(bounds)
 }
 
-// edge is a line from the top of one box to the bottom of another.
+// edge returns a line from the top of one box to the bottom of another.
 func edge(id, of string, from, to box) *element {
 	start := tag("di:waypoint", "x", strconv.Itoa(from.x+from.width/2), "y", strconv.Itoa(from.y))
 	end := tag("di:waypoint", "x", strconv.Itoa(to.x+to.width/2), "y", strconv.Itoa(to.y+to.height))

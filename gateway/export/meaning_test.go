@@ -14,7 +14,7 @@ import (
 	"gateway/feel"
 )
 
-// texts makes random texts of ours over the names of a place.
+// texts makes random texts over the names of a place.
 type texts struct{ *rand.Rand }
 
 func (t texts) one(of ...string) string { return of[t.Intn(len(of))] }
@@ -71,7 +71,7 @@ func (t texts) tests() string {
 	return list
 }
 
-// value is a random value of a shape.
+// value returns a random value of a shape.
 func (t texts) value(of shape, depth int) any {
 	all := []any{nil, true, big.NewInt(int64(t.Intn(4) - 1)), t.one("a", "b", ""), nil, nil}
 	if depth > 0 {
@@ -91,7 +91,7 @@ func (t texts) value(of shape, depth int) any {
 	}
 }
 
-// shapes are what the names of random texts may be.
+// shapes returns what the names in random texts may be.
 func shapes() map[string]shape {
 	text := shape{kinds: isText | isNull}
 	return map[string]shape{"a": anything, "b": anything, "n": number, "s": text, "f": condition,
@@ -99,11 +99,11 @@ func shapes() map[string]shape {
 		"c": {kinds: isContext | isNull, entries: map[string]shape{"p": number}}}
 }
 
-// A trial is a text of ours with values, what it gives, and how it is written.
+// A trial is one of our texts with values, its result, and how it is written.
 type trial struct {
 	model, text, written string
 	bound                map[string]any
-	// due is what the standard gives of what was written.
+	// due is what the standard gives for the written text.
 	due any
 }
 
@@ -117,7 +117,7 @@ func (t texts) bound() map[string]any {
 
 const trials = 500
 
-// TestRandomTextsMeanTheSame holds what the engine gives of a text against what the standard means by what is written.
+// TestRandomTextsMeanTheSame compares the engine's result of a text with the standard's meaning of the written text.
 func TestRandomTextsMeanTheSame(t *testing.T) {
 	r := texts{rand.New(rand.NewSource(57))}
 	place := placeOf(shapes(), nil)
@@ -139,7 +139,7 @@ func TestRandomTextsMeanTheSame(t *testing.T) {
 	compare(t, all)
 }
 
-// TestRandomTestsMeanTheSame does the same of unary tests, of columns of each kind.
+// TestRandomTestsMeanTheSame does the same for unary tests, with columns of each kind.
 func TestRandomTestsMeanTheSame(t *testing.T) {
 	r := texts{rand.New(rand.NewSource(58))}
 	place := placeOf(shapes(), nil)
@@ -173,7 +173,7 @@ func said(t *testing.T, value any) string {
 	return string(text)
 }
 
-// compare asks the engine for all, each under a model of its own. A value past the limits is no answer.
+// compare asks the engine for all, each under its own model. A value past the limits is not an answer.
 func compare(t *testing.T, all []trial) {
 	t.Helper()
 	var lines bytes.Buffer

@@ -7,7 +7,7 @@ import (
 	"gateway/model"
 )
 
-// ids are the ids of the elements that others refer to. A word is a lawful id behind what its kind is.
+// ids has the ids of elements that others refer to. A word after its kind is a valid id.
 type ids struct{ nodes map[string]string }
 
 func newIDs(m *model.Model) ids {
@@ -21,19 +21,19 @@ func newIDs(m *model.Model) ids {
 	return ids{nodes}
 }
 
-// node is the id of an input or a decision.
+// node returns the id of an input or decision.
 func (i ids) node(word string) string { return i.nodes[word] }
 
-// of is the id of something else.
+// of returns the id of another element.
 func (i ids) of(kind, word string) string { return kind + "_" + word }
 
-// keywords are words that FEEL has forms for, and the language of texts not, so that they may be names here.
+// keywords are keywords of FEEL that are valid names here.
 var keywords = map[string]bool{
 	"for": true, "in": true, "return": true, "some": true, "every": true, "satisfies": true, "instance": true,
 	"function": true, "external": true,
 }
 
-// checkNames refuses what is no name in the standard. Two words of one spelling would be one name there.
+// checkNames refuses names that the standard doesn't allow. Two words with one spelling would be one name there.
 func (p *page) checkNames() {
 	words := map[string]string{}
 	check := func(pointer, word string) {
@@ -75,8 +75,8 @@ func (p *page) checkBoxed(pointer string, e model.Expression, check func(pointer
 	}
 }
 
-// servesByDefault tells whether the services are those that an import makes of a file without any: one for each
-// decision, first for those that no other needs.
+// servesByDefault reports whether the services are those that an import makes for a file without any: one for each decision,
+// first those that no other decision needs.
 func (p *page) servesByDefault() bool {
 	var made []model.Service
 	needed := map[string]bool{}
@@ -95,7 +95,7 @@ func (p *page) servesByDefault() bool {
 	return len(made) > 0 && reflect.DeepEqual(made, p.services)
 }
 
-// serviceOf is the service that answers a decision: what it needs, and what that needs, nearest first.
+// serviceOf returns the service for a decision: what it needs, and what that needs, nearest first.
 func (p *page) serviceOf(word string) model.Service {
 	s := model.Service{Name: word, Outputs: []string{word}, Encapsulated: []string{}, InputDecisions: []string{},
 		InputData: []string{}}

@@ -6,8 +6,8 @@ import (
 	"gateway/feel"
 )
 
-// standard evaluates the part of FEEL that is written here, as DMN 1.3 means it. A value is nil, a bool, a *big.Int, a
-// string, a []any or a map[string]any. It is for tests alone, and stands on nothing of the engine.
+// standard evaluates the part of FEEL that is written here, as DMN 1.3 means it. A value is nil, a bool, a *big.Int, a string,
+// a []any or a map[string]any. It is only for tests, and independent of the engine.
 type standard struct {
 	bound map[string]any
 	// input is the value of "?".
@@ -125,7 +125,7 @@ func negation(a any) any {
 	return nil
 }
 
-// compared is a comparison: nil where the standard has null.
+// compared returns a comparison, or nil if the standard says null.
 func compared(a any, operator string, b any) any {
 	switch operator {
 	case "=":
@@ -180,7 +180,7 @@ func orderOf(a, b string) int {
 	return 1
 }
 
-// equal is whether two values are equal, nil where they are of two kinds and none is null.
+// equal reports whether two values are equal; nil if their kinds differ and neither is null.
 func equal(a, b any) any {
 	if a == nil || b == nil {
 		return a == nil && b == nil
@@ -256,7 +256,7 @@ func (s standard) call(e *feel.Call) any {
 	case values[0] == nil:
 		return nil
 	case !ok:
-		// A single value is taken for a list of one.
+		// A single value counts as a list of one.
 		list = values
 	}
 	if function(e) == "count" {
@@ -285,7 +285,7 @@ func contains(list []any, value any) bool {
 	return false
 }
 
-// aggregated is the sum of numbers, or the least or greatest of numbers or of texts.
+// aggregated returns the sum of numbers, or the least or greatest of numbers or texts.
 func aggregated(called string, list []any) any {
 	var found any
 	for i, member := range list {
@@ -316,7 +316,7 @@ func aggregated(called string, list []any) any {
 	return nil
 }
 
-// meets is whether the input meets tests of which one has to hold: nil where that is unknown.
+// meets reports whether the input meets one of the tests; nil if that is unknown.
 func (s standard) meets(tests []feel.Node) any {
 	var met any = false
 	for _, test := range tests {

@@ -7,15 +7,15 @@ import (
 	"gateway/feel"
 )
 
-// A fault says why a text can't be written so that the standard means the same.
+// A fault says why a text can't be written with the same meaning in the standard.
 type fault struct{ why, instead string }
 
 func (f *fault) Error() string { return f.why }
 
-// A dictionary has how words are spelled in the file.
+// A dictionary has the spelling of words in the file.
 type dictionary struct {
 	spelled map[string]string
-	// members are all names, any of which may stand behind a point.
+	// members has all names; any may follow a point.
 	members *feel.Scope
 }
 
@@ -27,7 +27,7 @@ func newDictionary(spelled map[string]string) *dictionary {
 	return d
 }
 
-// spell is a word as the file writes it.
+// spell returns a word as the file writes it.
 func (d *dictionary) spell(word string) string {
 	if name, found := d.spelled[word]; found {
 		return name
@@ -35,21 +35,21 @@ func (d *dictionary) spell(word string) string {
 	return word
 }
 
-// A scope writes the texts of a place of the model: it knows what is bound there.
+// A scope writes the texts of a place of the model, and knows its names.
 type scope struct {
 	*dictionary
 	outer *scope
 	bound *names
-	// file has the names that are bound, as the file spells them.
+	// file has the bound names as the file spells them.
 	file *feel.Scope
 }
 
-// newScope is a place of no other one, where nothing is bound.
+// newScope returns an outermost place without names.
 func newScope(d *dictionary) *scope {
 	return &scope{dictionary: d, bound: newNames(nil), file: feel.NewScope(nil)}
 }
 
-// inner is a place inside of this one.
+// inner returns a place inside s.
 func (s *scope) inner() *scope {
 	return &scope{dictionary: s.dictionary, outer: s, bound: newNames(s.bound), file: feel.NewScope(s.file)}
 }
@@ -76,7 +76,7 @@ func (s *scope) expression(text string) (string, error) {
 	})
 }
 
-// tests writes the unary tests of a column, whose input has a shape.
+// tests writes the unary tests of a column whose input has this shape.
 func (s *scope) tests(text string, input shape) (string, error) {
 	nodes, stopped := feel.Tests(text, s.bound.reads, nil)
 	if stopped != nil {
@@ -92,21 +92,21 @@ func (s *scope) tests(text string, input shape) (string, error) {
 	})
 }
 
-// mostText is how long a text may get.
+// mostText limits the length of a text.
 const mostText = 1 << 20
 
-// A writer writes one text anew: it goes over the tree, and what it need not change it takes as it stands.
+// A writer rewrites one text. It walks the tree, and copies what need not change.
 type writer struct {
 	*scope
 	source string
-	// input is what is known of the value that tests are asked of.
+	// input is what is known of the tested value.
 	input shape
-	// used are the names of the text in their order, as the file spells them.
+	// used lists the text's names in order, as the file spells them.
 	used []string
 	err  error
 }
 
-// finish checks that the text that was written is read with the same names.
+// finish checks that the written text is read with the same names.
 func (w *writer) finish(written string, check func(string) error) (string, error) {
 	if w.err == nil {
 		w.err = check(written)
@@ -120,7 +120,7 @@ func (w *writer) fail(why, instead string) {
 	}
 }
 
-// compare tells where names run into each other: "a - b" is read as one name where "a-b" is one.
+// compare finds names that run together: "a - b" becomes one name if there is an "a-b".
 func (w *writer) compare(again []feel.Node) error {
 	var read []string
 	for _, node := range again {
@@ -132,7 +132,7 @@ func (w *writer) compare(again []feel.Node) error {
 	return nil
 }
 
-// splice writes a span of the source, with these forms in it written anew.
+// splice writes a span of the source with these forms in it rewritten.
 func (w *writer) splice(span feel.Span, forms ...feel.Node) string {
 	var text strings.Builder
 	at := span.Start
@@ -170,7 +170,7 @@ func (w *writer) form(node feel.Node) string {
 	return w.splice(node.At(), parts(node)...)
 }
 
-// name writes a name. One that is bound nowhere is null here, and is no name of the standard.
+// name writes a name. An unbound one is null here, and no name in the standard.
 func (w *writer) name(e *feel.Name) string {
 	if !e.Known {
 		return "null"
@@ -188,8 +188,8 @@ func (w *writer) path(e *feel.Path) string {
 	return front + name
 }
 
-// chain writes operands with their operators. Of two texts a plus is null here, and their concatenation in the standard:
-// less the negation is the sum of two numbers, and null of two texts, in both.
+// chain writes operands with their operators. A plus of two texts is null here and their concatenation in the standard.
+// Subtracting the negation gives the sum of two numbers, and null for two texts, in both.
 func (w *writer) chain(e *feel.Chain) string {
 	var text strings.Builder
 	text.WriteString(w.splice(feel.Span{Start: e.Start, End: e.Operands[0].At().End}, e.Operands[0]))
@@ -209,8 +209,8 @@ func (w *writer) chain(e *feel.Chain) string {
 	return text.String()
 }
 
-// call writes a call. The functions over lists are null here of what is no list, and the least and the greatest of what
-// is no list of numbers; the standard takes a single value for a list, and has the least text.
+// call writes a call. Here list functions give null for a single value, and min and max also for other lists than of numbers.
+// The standard takes a single value as a list, and has a least text.
 func (w *writer) call(e *feel.Call) string {
 	called := function(e)
 	if _, hidden := w.bound.find(called); hidden {
@@ -227,7 +227,7 @@ func (w *writer) call(e *feel.Call) string {
 	return w.overList(e, called, values[0])
 }
 
-// single are the kinds of single values of which the standard gives another answer than null.
+// single are the kinds of single values for which the standard doesn't give null.
 var single = map[string]kinds{
 	"sum":   isNumber,
 	"min":   isNumber | isText,
@@ -250,8 +250,8 @@ func (w *writer) overList(e *feel.Call, called string, value feel.Node) string {
 	return "(if (" + w.splice(value.At(), value) + ") instance of list<Any> then " + text + " else null)"
 }
 
-// sumOfEither is x where a condition is "if count(x) >= 0 then sum(x) else sum([x])", which is what sum(x) means in the
-// standard: of a list its sum, and of what is no list that of the list with this one member. It is nil for any other.
+// sumOfEither returns x if a condition is "if count(x) >= 0 then sum(x) else sum([x])", which is what sum(x) means in the
+// standard: the sum of a list, or of the list with this one value. It returns nil for others.
 func (w *writer) sumOfEither(e *feel.If) feel.Node {
 	isList, _ := e.Condition.(*feel.Binary)
 	if isList == nil || isList.Operator != ">=" || w.text(isList.Right) != "0" {
@@ -268,10 +268,10 @@ func (w *writer) sumOfEither(e *feel.If) feel.Node {
 	return counted
 }
 
-// text is a form as the source has it.
+// text returns a form as in the source.
 func (w *writer) text(node feel.Node) string { return w.source[node.At().Start:node.At().End] }
 
-// argument is the one argument of a call of a function; nil where the form is none.
+// argument returns the only argument of a call of a function, or nil.
 func argument(node feel.Node, called string) feel.Node {
 	call, _ := node.(*feel.Call)
 	if call == nil || function(call) != called || len(call.Arguments) != 1 {
@@ -280,7 +280,7 @@ func argument(node feel.Node, called string) feel.Node {
 	return call.Arguments[0].Value
 }
 
-// tests writes tests of which one has to hold. In a negation a test may not be unknown.
+// tests writes tests of which one must hold. In a negation no test may be unknown.
 func (w *writer) tests(span feel.Span, tests []feel.Node, negated bool) string {
 	var text strings.Builder
 	at := span.Start
@@ -293,9 +293,9 @@ func (w *writer) tests(span feel.Span, tests []feel.Node, negated bool) string {
 	return text.String()
 }
 
-// test writes one test. An expression is compared with the input here; the standard takes one that is true for a
-// condition that is met, so one that may be true is written as a comparison. In a negation a comparison of two kinds of
-// values would be unknown there; here it is no, so that the negation holds.
+// test writes one test. An expression is compared with the input here; in the standard a true one is a condition that is met,
+// so one that may be true is written as a comparison. In a negation a comparison of different kinds would be unknown there;
+// here it is false, and the negation holds.
 func (w *writer) test(test feel.Node, negated bool) string {
 	switch e := test.(type) {
 	case *feel.Anything, *feel.Unary, *feel.Range:
@@ -319,8 +319,8 @@ func (w *writer) test(test feel.Node, negated bool) string {
 	return written
 }
 
-// isOfOneKind tells whether a comparison of the input with a value is never unknown: both are of one kind, or one is
-// null; a list that holds the input or not is no comparison.
+// isOfOneKind reports whether a comparison of the input with a value is never unknown: both have one kind, or one is null.
+// Membership in a list is not a comparison.
 func (w *writer) isOfOneKind(value shape) bool {
 	kinds := value.kinds &^ isNull
 	if kinds == 0 || kinds == isList {
@@ -329,8 +329,7 @@ func (w *writer) isOfOneKind(value shape) bool {
 	return kinds&(kinds-1) == 0 && w.input.kinds&^isNull&^kinds == 0
 }
 
-// quote writes a string literal. What may stand for itself in a literal here but not in one of the standard, or not in
-// XML, is written as an escape.
+// quote writes a string literal. Characters that only our literals may have, or that XML can't, are escaped.
 func quote(value, written string) string {
 	if strings.IndexFunc(written, isEscaped) < 0 {
 		return written
@@ -355,7 +354,7 @@ func isEscaped(r rune) bool {
 	return r < ' ' && r != '\t' || r == 0xfffe || r == 0xffff
 }
 
-// parts are the forms that stand directly in a form, in the order of the text.
+// parts returns the direct parts of a form, in text order.
 func parts(node feel.Node) []feel.Node {
 	switch e := node.(type) {
 	case *feel.If:
@@ -390,7 +389,7 @@ func parts(node feel.Node) []feel.Node {
 	return nil
 }
 
-// namesOf are the names of a text in their order; the entry of a path stands with a point in front.
+// namesOf returns the names of a text in order. A path's entry has a point before it.
 func namesOf(node feel.Node) []string {
 	if name, ok := node.(*feel.Name); ok {
 		if !name.Known || name.Doubtful {

@@ -6,15 +6,14 @@ import (
 	"strings"
 )
 
-// A Schema is what is used of the JSON Schema of a value: its type, the values that it may have, the members of a list
-// and the entries of a context.
+// A Schema is the used part of a value's JSON Schema: type, allowed values, list members and context entries.
 type Schema struct {
-	// Type is one type, or a list of types.
+	// Type is a type, or a list of types.
 	Type       json.RawMessage   `json:"type"`
 	Enum       []json.RawMessage `json:"enum"`
 	Items      *Schema           `json:"items"`
 	Properties map[string]Schema `json:"properties"`
-	// The ends of a range of numbers.
+	// The ends of a number range.
 	Minimum json.Number `json:"minimum"`
 	Above   json.Number `json:"exclusiveMinimum"`
 	Maximum json.Number `json:"maximum"`
@@ -22,17 +21,17 @@ type Schema struct {
 	// How the model counts numbers: as multiples of a power of ten, or a quotient as parts of one.
 	MultipleOf json.Number `json:"multipleOf"`
 	Per        json.Number `json:"per"`
-	// Format is of dates, times and durations, which the model has as whole numbers.
+	// Format is that of dates, times and durations, which the model has as whole numbers.
 	Format string `json:"format"`
 }
 
-// kindsOf are the kinds of values of each type of JSON Schema.
+// kindsOf maps each type of JSON Schema to its kinds of values.
 var kindsOf = map[string]kinds{
 	"null": isNull, "boolean": isBoolean, "integer": isNumber, "number": isNumber, "string": isText, "array": isList,
 	"object": isContext,
 }
 
-// typeNames are the types of a schema, none where it names none.
+// typeNames returns a schema's types, or none.
 func (s Schema) typeNames() []string {
 	if s.Format != "" {
 		return []string{"integer", "null"}
@@ -48,7 +47,7 @@ func (s Schema) typeNames() []string {
 	return nil
 }
 
-// shape is what the schema says of a value. Null is always lawful: a request may leave an input out.
+// shape returns what the schema says about a value. Null is always valid, as a request may leave an input out.
 func (s Schema) shape() shape {
 	found := shape{kinds: isNull}
 	for _, name := range s.typeNames() {
@@ -70,7 +69,7 @@ func (s Schema) shape() shape {
 	return found
 }
 
-// scalar is the name of the type of a number, a text or a boolean; empty where a value may be anything else.
+// scalar returns the type name of a number, text or boolean; "" for anything else.
 func scalar(s shape) string {
 	switch s.kinds &^ isNull {
 	case isNumber:
@@ -83,7 +82,7 @@ func scalar(s shape) string {
 	return ""
 }
 
-// scalar is the name of a scalar type where types are written.
+// scalar returns the name of a scalar type if types are written.
 func (p *page) scalar(s shape) string {
 	if !p.Typed {
 		return ""
@@ -91,12 +90,12 @@ func (p *page) scalar(s shape) string {
 	return scalar(s)
 }
 
-// isNarrowed tells whether the schema has fewer values than its type.
+// isNarrowed reports whether the schema allows fewer values than its type.
 func (s Schema) isNarrowed() bool {
 	return len(s.Enum) > 0 || s.interval() != ""
 }
 
-// interval is the range of the numbers, where it has two ends; a range of FEEL has no end that is left out.
+// interval returns the number range if it has two ends; FEEL's ranges have both.
 func (s Schema) interval() string {
 	low, high := "["+s.Minimum.String(), s.Maximum.String()+"]"
 	if s.Above != "" {
@@ -111,7 +110,7 @@ func (s Schema) interval() string {
 	return low + ".." + high
 }
 
-// typeOf is the type of an input or a decision, which gets a definition of its own where it is no plain one.
+// typeOf returns the type of an input or decision. It gets its own definition unless it is a plain one.
 func (p *page) typeOf(word string) string {
 	schema, typed := p.Types[word]
 	if !typed {
@@ -128,7 +127,7 @@ func (p *page) typeOf(word string) string {
 	return name
 }
 
-// item is the definition of a type, or of a component of one.
+// item returns the definition of a type or of its component.
 func (p *page) item(kind, name string, schema Schema) *element {
 	collection := ""
 	if schema.Items != nil {
@@ -136,7 +135,7 @@ func (p *page) item(kind, name string, schema Schema) *element {
 	}
 	e := tag(kind, "id", p.id("item"), "name", name, "isCollection", collection)
 	if schema.Items != nil {
-		// A list of lists: the inner one is a definition of its own.
+		// A list of lists needs a definition for the inner one.
 		inner := name + " member"
 		p.types = append(p.types, p.item("itemDefinition", inner, schema))
 		return e.add(typeRef(inner))
@@ -164,7 +163,7 @@ func typeRef(name string) *element {
 	return &element{name: "typeRef", content: name}
 }
 
-// allowed are the values that a type is narrowed to.
+// allowed returns the allowed values of a type.
 func (p *page) allowed(schema Schema) []*element {
 	var values []string
 	if interval := schema.interval(); interval != "" {
@@ -181,7 +180,7 @@ func (p *page) allowed(schema Schema) []*element {
 	return []*element{tag("allowedValues", "id", p.id("values")).add(text(strings.Join(values, ", ")))}
 }
 
-// feelOf is a scalar of JSON as a literal of FEEL.
+// feelOf returns a JSON scalar as a FEEL literal.
 func feelOf(literal string) string {
 	var value string
 	if json.Unmarshal([]byte(literal), &value) != nil {

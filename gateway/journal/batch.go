@@ -5,15 +5,15 @@ import (
 	"fmt"
 )
 
-// batchBytes is about how many bytes the texts of a batch have at most, unless its last entry is a long one.
+// batchBytes is about the most bytes in a batch's texts, unless its last entry is long.
 const batchBytes = 256 << 10
 
-// A batch is entries in their order, which are held against the chain together.
+// A batch is consecutive entries that are checked against the chain together.
 type batch struct {
-	// texts has the sum before each entry and its text, one behind the other.
+	// texts has for each entry the sum before it and its text.
 	texts []byte
 	parts []part
-	// faults are what was found, known once done is closed.
+	// faults has the findings, once done is closed.
 	faults []Fault
 	done   chan struct{}
 }
@@ -23,13 +23,13 @@ type part struct {
 	path string
 	line int
 	at   link
-	// end is where its text ends.
+	// end is the end of its text.
 	end int
-	// misplaced is what is wrong with its place, or empty.
+	// misplaced says what is wrong with its place, or "".
 	misplaced string
 }
 
-// add adds an entry with the sum before it. Without that sum its text can't be held against the chain.
+// add adds an entry with the sum before it. Without that sum its text can't be checked.
 func (b *batch) add(it *Read, before *link, misplaced string) {
 	if before != nil {
 		b.texts = append(b.texts, before.sum[:]...)
@@ -38,7 +38,7 @@ func (b *batch) add(it *Read, before *link, misplaced string) {
 	b.parts = append(b.parts, part{it.Path, it.Line, it.at, len(b.texts), misplaced})
 }
 
-// check finds what is wrong with the entries.
+// check checks the entries.
 func (b *batch) check() {
 	defer close(b.done)
 	begin := 0
@@ -59,10 +59,10 @@ func (b *batch) check() {
 	}
 }
 
-// A checker checks batches beside each other while the next one is read, no more of them at once than it has.
+// A checker checks batches in parallel while the next one is read, up to a fixed number of batches.
 type checker struct {
 	next *batch
-	// free are those that can be filled, filled those that are checked, in their order.
+	// free are batches to fill, filled those being checked, in order.
 	free, filled chan *batch
 	faults       []Fault
 	ended        chan struct{}
@@ -77,7 +77,7 @@ func newChecker(count int) *checker {
 	return c
 }
 
-// add adds the next entry, as that of a batch does.
+// add adds the next entry, as batch.add does.
 func (c *checker) add(it *Read, before *link, misplaced string) {
 	if c.next == nil {
 		c.next = <-c.free
@@ -89,7 +89,7 @@ func (c *checker) add(it *Read, before *link, misplaced string) {
 	}
 }
 
-// hand has the batch checked.
+// hand sends the batch to be checked.
 func (c *checker) hand() {
 	if c.next == nil {
 		return
@@ -102,10 +102,10 @@ func (c *checker) hand() {
 	c.next = nil
 }
 
-// isLong says whether the batch takes much memory: then no other is filled beside it, and it is not filled again.
+// isLong reports whether the batch takes much memory: then no other is filled in parallel, and it is not reused.
 func (b *batch) isLong() bool { return cap(b.texts) > 4*batchBytes }
 
-// collect takes what was found, batch by batch.
+// collect takes the findings, batch by batch.
 func (c *checker) collect() {
 	defer close(c.ended)
 	for b := range c.filled {
@@ -121,7 +121,7 @@ func (c *checker) collect() {
 	}
 }
 
-// end waits for all batches, and gives what was found.
+// end waits for all batches, and returns the faults.
 func (c *checker) end() []Fault {
 	c.hand()
 	close(c.filled)

@@ -8,8 +8,8 @@ import (
 	"strconv"
 )
 
-// A link is a place in the chain: the number of an entry, and the sum over it and all before it. The first entry has the
-// number 1, and zeros before it.
+// A link is a place in the chain: an entry's number, and the sum over it and all before it. The first entry has number 1, after
+// zeros.
 type link struct {
 	n   uint64
 	sum [sha256.Size]byte
@@ -20,15 +20,15 @@ const (
 	numberKey = `{"n":`
 	chainKey  = `,"chain":"`
 	closeKey  = `","close":true}`
-	// tailLength is how many bytes the end of the line has, from the comma before its chain on, without the newline.
+	// tailLength is the length of the line's end, from the comma before its chain, without the newline.
 	tailLength = len(chainKey) + 2*sha256.Size + len(closeKey)
 )
 
 // An Entry is what is recorded at once.
 type Entry struct {
-	// Asked is the line of a request with its newline, or empty.
+	// Asked is the request's line with its newline, or empty.
 	Asked []byte
-	// About has the members of the line about it, without braces, as `"id":"7"`; or is empty.
+	// About has the members of the line about it, without braces, such as `"id":"7"`; or is empty.
 	About []byte
 }
 
@@ -42,7 +42,7 @@ type chainer struct {
 
 func newChainer(at link) *chainer { return &chainer{sha256.New(), at} }
 
-// add adds an entry, which is the next of the chain.
+// add adds the chain's next entry.
 func (c *chainer) add(to []byte, e *Entry) []byte {
 	start := len(to)
 	to = append(to, e.Asked...)
@@ -60,7 +60,7 @@ func (c *chainer) add(to []byte, e *Entry) []byte {
 	return append(to, '\n')
 }
 
-// next is the link of an entry with this text, without its chain.
+// next returns the link of an entry with this text, which doesn't include its chain.
 func (c *chainer) next(text []byte) link {
 	next := link{n: c.at.n + 1}
 	c.hash.Reset()
@@ -70,7 +70,7 @@ func (c *chainer) next(text []byte) link {
 	return next
 }
 
-// linkIn reads the number and the chain of a line about an entry, without its newline; false where the line is another.
+// linkIn reads the number and the chain from a line about an entry, without its newline; false for other lines.
 func linkIn(line []byte) (at link, is bool) {
 	if len(line) < tailLength+len(numberKey) || !bytes.HasPrefix(line, []byte(numberKey)) {
 		return link{}, false
@@ -97,7 +97,7 @@ func linkIn(line []byte) (at link, is bool) {
 // mostEntries is more than any journal has.
 const mostEntries = 1 << 60
 
-// sumOf reads a sum in hexadecimal.
+// sumOf reads a hexadecimal sum.
 func sumOf(text string) (sum [sha256.Size]byte, is bool) {
 	if len(text) != 2*sha256.Size {
 		return sum, false
@@ -106,10 +106,10 @@ func sumOf(text string) (sum [sha256.Size]byte, is bool) {
 	return sum, err == nil
 }
 
-// String is the sum in hexadecimal.
+// String returns the sum in hexadecimal.
 func (l link) String() string { return hex.EncodeToString(l.sum[:]) }
 
-// IsAbout says whether a line is one about an entry.
+// IsAbout reports whether a line is about an entry.
 func IsAbout(line []byte) bool {
 	_, is := linkIn(bytes.TrimRight(line, "\r\n"))
 	return is

@@ -12,7 +12,7 @@ import (
 	"time"
 )
 
-// record writes entries under two models, and gives the folder and the heads that were told.
+// record writes entries under two models, and returns the folder and the reported heads.
 func record(t *testing.T, count int, options Options) (string, []string) {
 	t.Helper()
 	folder := filepath.Join(t.TempDir(), "journal")
@@ -53,7 +53,7 @@ func paths(t *testing.T, folder string) []string {
 	return names
 }
 
-// The chain is the one that the package's first page says, computed here from the text of the files.
+// The chain is that of the package comment, computed here from the files' text.
 func TestChain(t *testing.T) {
 	folder, heads := record(t, 1, Options{Size: 1 << 20})
 	text, err := os.ReadFile(paths(t, folder)[0])
@@ -90,7 +90,7 @@ func TestChain(t *testing.T) {
 	}
 }
 
-// A journal over several files, models and starts is whole, and has each head that was told.
+// A journal over several files, models and starts verifies, with each reported head.
 func TestVerifiesAcrossFiles(t *testing.T) {
 	folder, heads := record(t, 40, Options{Size: 800})
 	a := namedModel("a")
@@ -114,7 +114,7 @@ func TestVerifiesAcrossFiles(t *testing.T) {
 	}
 }
 
-// What is changed, cut, missing, doubled or put in is found, in its place.
+// What is changed, cut, missing, doubled or inserted is found at its place.
 func TestChangesAreFound(t *testing.T) {
 	for _, it := range []struct {
 		name   string
@@ -166,7 +166,7 @@ func TestChangesAreFound(t *testing.T) {
 	}
 }
 
-// Entries are checked in batches, one of them with a long entry: what is wrong is said in the order of the entries.
+// Entries are checked in batches, one of them with a long entry: faults are in the order of the entries.
 func TestFaultsOfBatchesAreInOrder(t *testing.T) {
 	folder := filepath.Join(t.TempDir(), "journal")
 	j := open(t, folder, 1<<30)
@@ -204,7 +204,7 @@ func TestFaultsOfBatchesAreInOrder(t *testing.T) {
 	}
 }
 
-// No more faults are listed than may be, also where each entry has one.
+// The list of faults is limited, even if each entry has one.
 func TestMostFaultsAreListed(t *testing.T) {
 	folder := filepath.Join(t.TempDir(), "journal")
 	j := open(t, folder, 1<<30)
@@ -230,7 +230,7 @@ func TestMostFaultsAreListed(t *testing.T) {
 	}
 }
 
-// What is deleted, replaced, cut or longer under the journal ends it, and nothing more is recorded.
+// Deleting, replacing, cutting or extending a file of an open journal ends it, and nothing more is recorded.
 func TestChangesUnderneathEndIt(t *testing.T) {
 	for name, change := range map[string]func(path string) error{
 		"deleted": os.Remove,
@@ -272,7 +272,7 @@ func TestChangesUnderneathEndIt(t *testing.T) {
 	}
 }
 
-// Whole files are removed, the oldest first, and an entry says so; a file that is removed otherwise is missing.
+// Whole files are removed, oldest first, and an entry says so; a file removed in another way is missing.
 func TestPruning(t *testing.T) {
 	var removed []string
 	folder, _ := record(t, 60, Options{Size: 500, Limit: 6000, Pruned: func(paths []string, _ uint64, _ error) { removed = append(removed, paths...) }})
@@ -296,7 +296,7 @@ func TestPruning(t *testing.T) {
 	}
 }
 
-// Files that are older than they are kept are removed when the next one begins, those of earlier versions too.
+// Files past their time are removed when the next one begins, those of earlier versions too.
 func TestOldFilesAreRemoved(t *testing.T) {
 	folder, _ := record(t, 4, Options{Size: 1 << 20})
 	old := filepath.Join(folder, "2020-01-01T000000.000000Z.jsonl")
@@ -331,7 +331,7 @@ func TestOldFilesAreRemoved(t *testing.T) {
 	}
 }
 
-// After a crash the chain goes on behind the last whole entry, wherever it tore.
+// After a crash the chain continues after the last whole entry, wherever the next one was cut.
 func TestTornEntries(t *testing.T) {
 	whole, _ := record(t, 1, Options{Size: 1 << 20})
 	text, err := os.ReadFile(paths(t, whole)[0])

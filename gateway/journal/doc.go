@@ -1,22 +1,22 @@
-// Package journal is a record of answers on disk, each file of which `desk explain` can read.
+// Package journal records answers on disk, in files that `desk explain` can read.
 //
-// A journal is a folder with files of lines. What is recorded at once is an entry: the line that was asked, where there is
-// one, and a line about it:
+// A journal is a folder with files of lines. An entry is what is recorded at once: the request's line, if there is one, and a
+// line about it:
 //
 //	{"model":M}
 //	{"n":1,"begins":true,..,"before":"SUM","chain":"SUM","close":true}
 //	{"client":"ID","inputs":{..},"service":"s"}
 //	{"n":2,..,"chain":"SUM","close":true}
 //
-// A file begins with a model; all its requests were answered under this model, so they can be asked again from the file
-// alone. Lines that end with "close":true are none of the engine's.
+// A file begins with a model, under which all its requests were answered, so they can be repeated from the file alone. Lines
+// that end with "close":true are not the engine's.
 //
-// The entries of all files are numbered in the order in which they were written, and chained: the chain of an entry is the
-// SHA-256 of the chain before it, as 32 bytes, and of the entry's text up to the comma before "chain". So one sum stands for
-// all that was written before, and a line that is changed, cut or missing is found. Who can write the files can write another
-// chain: Options.Ended is told each file's last sum, to be kept elsewhere.
+// The entries of all files are numbered in the order of writing, and chained: an entry's chain is the SHA-256 of the chain
+// before it, as 32 bytes, and of the entry's text up to the comma before "chain". So one sum stands for everything written
+// before, and a changed, cut or missing line is found. Whoever can write the files can write another chain: Options.Ended is
+// called with each file's last sum, to be kept elsewhere.
 //
-// Entries are on the disk when Append or Record returns: they are written and synced in groups. A file is never changed but
-// at its end; what a fault leaves there in part is cut off, at once or when the journal is opened again. A file that is
-// deleted, replaced or cut by others while it is open ends the journal: nothing more is recorded.
+// Entries are on disk when Append or Record returns: they are written and synced in groups. A file only changes at its end.
+// What a fault leaves there in part is cut off, at once or when the journal is next opened. If others delete, replace or cut a
+// file of an open journal, the journal ends: nothing more is recorded.
 package journal

@@ -12,27 +12,27 @@ import (
 )
 
 const (
-	// nameForm is the form of a file's name, in universal time: names in order are files in order.
+	// nameForm is the form of a file's name, in UTC: files in name order are in time order.
 	nameForm = "2006-01-02T150405.000000Z"
 	suffix   = ".jsonl"
-	// fileMode and folderMode let the owner alone read what was decided about people.
+	// fileMode and folderMode let only the owner read what was decided about people.
 	fileMode   = 0o600
 	folderMode = 0o700
 )
 
-// A file is open for writing.
+// A file is a file open for writing.
 type file struct {
 	model Model
 	os    *os.File
 	to    *bufio.Writer
-	// size is what was handed to the writer, synced what is on the disk.
+	// size is what was passed to the writer, synced what is on disk.
 	size, synced int64
-	// begun is when it was created; first and last are the numbers of its entries.
+	// begun is when it was created; first and last are its entries' numbers.
 	begun       time.Time
 	first, last uint64
 }
 
-// create begins a file with its model and what is said of it, and has its name on the disk.
+// create begins a file with its model and the line about it, and syncs its name.
 func create(folder string, now time.Time, model Model, chain *chainer) (*file, error) {
 	var opened *os.File
 	for name := now; ; name = name.Add(time.Microsecond) {
@@ -69,7 +69,7 @@ type lostError struct{ error }
 
 func (l *lostError) Unwrap() error { return l.error }
 
-// aboutFile is what the first entry of a file says.
+// aboutFile returns the line about a file's beginning.
 func aboutFile(now time.Time, model Model, before link) []byte {
 	about := fmt.Sprintf(`"begins":true,"form":2,"time":%q,"before":"%s"`, now.UTC().Format(TimeForm), before)
 	if it, is := model.(Described); is {
@@ -78,7 +78,7 @@ func aboutFile(now time.Time, model Model, before link) []byte {
 	return []byte(about)
 }
 
-// makeFolder makes a folder where it is missing, and has its name on the disk.
+// makeFolder makes a missing folder, and syncs its name.
 func makeFolder(folder string) error {
 	if _, err := os.Stat(folder); err == nil {
 		return nil
@@ -104,7 +104,7 @@ func (f *file) write(text []byte) error {
 	return err
 }
 
-// syncFile has what was written to a file on the disk.
+// syncFile syncs a file to disk.
 var syncFile = (*os.File).Sync
 
 func (f *file) sync() error {
@@ -118,7 +118,7 @@ func (f *file) sync() error {
 	return nil
 }
 
-// look says what others did to a file while it is open: its name is gone or leads to another file, or its size is another.
+// look reports what others did to an open file: its name is gone or leads to another file, or its size has changed.
 func (f *file) look() error {
 	own, err := f.os.Stat()
 	if err != nil {
@@ -140,8 +140,8 @@ func (f *file) look() error {
 	return nil
 }
 
-// abandon cuts a file that failed to what was synced, and closes it. One without anything is removed. The error is that
-// entries may stand in it that were not recorded.
+// abandon cuts a failed file to what was synced, and closes it. It removes an empty one. An error means that the file may have
+// entries that were not recorded.
 func (f *file) abandon() error {
 	defer f.os.Close()
 	if f.synced == 0 {
@@ -153,7 +153,7 @@ func (f *file) abandon() error {
 	if err := f.os.Truncate(f.synced); err != nil {
 		return fmt.Errorf("cutting what was written in part: %w", err)
 	}
-	// Where the disk fails, the next file fails too.
+	// If the disk fails, the next file fails too.
 	_ = f.os.Sync()
 	return nil
 }

@@ -13,33 +13,33 @@ import (
 
 // Options says how a journal is kept.
 type Options struct {
-	// Size is about how many bytes a file has at most.
+	// Size is about the most bytes in a file.
 	Size int64
-	// Keep is how long files are kept at least, Limit how many bytes all of them have at most; 0 is forever, and any.
+	// Keep is how long files are kept at least, Limit the most bytes in all of them; 0 means forever, and any.
 	Keep  time.Duration
 	Limit int64
-	// Synced is told after each group: its lines, its bytes, how long writing and syncing took, and the error.
+	// Synced is called after each group with its lines, its bytes, how long writing and syncing took, and the error.
 	Synced func(lines int, bytes int64, took time.Duration, err error)
-	// Ended is told when a file ends: its path, the number of its last entry, and the chain's sum then. Pruned is told of files
-	// that were removed, and why one could not be. Both may be nil.
+	// Ended is called when a file ends, with its path, its last entry's number, and the chain's sum. Pruned is called with
+	// removed files, and why one could not be removed. Both may be nil.
 	Ended  func(path string, last uint64, sum string)
 	Pruned func(paths []string, last uint64, err error)
 }
 
-// A Model is one under which requests were answered.
+// A Model is the model under which requests were answered.
 type Model interface {
 	// AppendLine adds its line, with the newline.
 	AppendLine(to []byte) []byte
 }
 
-// Described is a model that says more of itself at the beginning of a file.
+// A Described model says more about itself at the start of a file.
 type Described interface {
 	Model
 	// AppendAbout adds members, without braces.
 	AppendAbout(to []byte) []byte
 }
 
-// TimeForm is the form of a time in an entry, in universal time.
+// TimeForm is the form of a time in an entry, in UTC.
 const TimeForm = "2006-01-02T15:04:05.000Z"
 
 // A Journal is a folder of files that is being written.
@@ -49,15 +49,15 @@ type Journal struct {
 	lock    *os.File
 	posts   chan *post
 	ended   chan struct{}
-	// closing guards posts against what comes behind the end.
+	// closing keeps posts from coming after the end.
 	closing sync.RWMutex
 	closed  bool
-	// files are those that are open, the newest last; chain is at the last entry, and past are those that ended. They belong to
-	// the one goroutine that writes.
+	// files are the open files, newest last. chain is at the last entry. past has the ended files. Only the writing goroutine
+	// uses them.
 	files []*file
 	chain *chainer
 	past  []kept
-	// begun is the last entry when the journal was opened.
+	// begun is the last entry at opening.
 	begun link
 
 	mu     sync.Mutex
@@ -72,30 +72,29 @@ type post struct {
 	model   Model
 	entries []Entry
 	size    int
-	// turn ends all files; look only sees whether they are as they were left.
+	// turn ends all files; look only checks that they are unchanged.
 	turn, look bool
 	done       chan error
 }
 
 const (
-	// groupEntries and groupBytes are the most that is synced at once.
+	// groupEntries and groupBytes limit what is synced at once.
 	groupEntries = 4096
 	groupBytes   = 8 << 20
-	// openFiles is how many files may be open: that of the model in force, and those of models before it, of which
-	// requests were still out.
+	// openFiles limits the open files: one for the current model, and others for earlier models with open requests.
 	openFiles = 4
-	// faultPause is how long a journal that failed is not tried again.
+	// faultPause is how long a failed journal is not tried again.
 	faultPause = time.Second
 	lockName   = "lock"
-	// dayLong is how long a file is written at most where files are not kept forever.
+	// dayLong is how long a file is written at most if files are not kept forever.
 	dayLong = 24 * time.Hour
 )
 
-// ErrClosed says that a journal takes no more.
+// ErrClosed means that the journal is closed.
 var ErrClosed = errors.New("the journal is closed")
 
-// Open makes the folder where it is missing, drops what was written in part, and takes the journal for this process alone.
-// Repaired has a sentence for each file that was cut.
+// Open makes the folder if it is missing, cuts off partial entries, and locks the journal for this process. Repaired has a
+// sentence for each file that was cut.
 func Open(folder string, options Options) (journal *Journal, repaired []string, err error) {
 	if err := makeFolder(folder); err != nil {
 		return nil, nil, fmt.Errorf("opening the journal: %w", err)
@@ -127,16 +126,16 @@ func Open(folder string, options Options) (journal *Journal, repaired []string, 
 	return j, repaired, nil
 }
 
-// Begun is the number of the last entry when the journal was opened, and the chain's sum then.
+// Begun returns the number of the last entry at opening, and the chain's sum.
 func (j *Journal) Begun() (n uint64, sum string) { return j.begun.n, j.begun.String() }
 
-// lockTries is how often the lock is tried, with a pause between: who only looks whether it is taken has it for a moment.
+// lockTries is how often the lock is tried, with a pause between: a process that only checks the lock takes it for a moment.
 const (
 	lockTries = 5
 	lockPause = 20 * time.Millisecond
 )
 
-// take takes the lock for this process.
+// take locks the lock for this process.
 func take(lock *os.File) (err error) {
 	for try := 0; try < lockTries; try++ {
 		if err = syscall.Flock(int(lock.Fd()), syscall.LOCK_EX|syscall.LOCK_NB); err == nil {
@@ -147,8 +146,8 @@ func take(lock *os.File) (err error) {
 	return err
 }
 
-// Append adds lines, each with its newline, that were answered under a model. They are on the disk when it returns
-// without an error. With an error none of them is.
+// Append adds lines, each with its newline, that were answered under a model. They are on disk if it returns no error. With an
+// error none is recorded.
 func (j *Journal) Append(model Model, text []byte, lines int) error {
 	entries := make([]Entry, 0, lines)
 	for _, line := range bytes.SplitAfter(text, []byte("\n")) {
@@ -159,7 +158,7 @@ func (j *Journal) Append(model Model, text []byte, lines int) error {
 	return j.Record(model, entries)
 }
 
-// Record adds entries under a model. They are on the disk when it returns without an error. With an error none of them is.
+// Record adds entries under a model. They are on disk if it returns no error. With an error none is recorded.
 func (j *Journal) Record(model Model, entries []Entry) error {
 	size := 0
 	for at := range entries {
@@ -168,12 +167,12 @@ func (j *Journal) Record(model Model, entries []Entry) error {
 	return j.put(&post{model: model, entries: entries, size: size, done: make(chan error, 1)})
 }
 
-// Turn ends all files: what comes is written to new ones.
+// Turn ends all files: later entries go to new ones.
 func (j *Journal) Turn() error {
 	return j.put(&post{turn: true, done: make(chan error, 1)})
 }
 
-// Look sees whether the files that are open are as they were left, and gives the error of one that is not.
+// Look checks that the open files are unchanged, and returns an error if one is not.
 func (j *Journal) Look() error {
 	return j.put(&post{look: true, done: make(chan error, 1)})
 }
@@ -189,8 +188,8 @@ func (j *Journal) put(p *post) error {
 	return <-p.done
 }
 
-// Fault is why the last lines could not be written, or nil. It is known for a second only: then they are tried again. A
-// journal whose files were changed by others is not tried again.
+// Fault returns why the last lines could not be written, or nil. After a second writing is tried again, unless others changed
+// the files.
 func (j *Journal) Fault() error {
 	j.mu.Lock()
 	defer j.mu.Unlock()
@@ -203,7 +202,7 @@ func (j *Journal) Fault() error {
 	return nil
 }
 
-// Failing says whether the last lines could not be written.
+// Failing reports whether the last lines could not be written.
 func (j *Journal) Failing() bool {
 	j.mu.Lock()
 	defer j.mu.Unlock()
@@ -236,7 +235,7 @@ func (j *Journal) write() {
 	}
 }
 
-// group is a post and those that wait behind it.
+// group returns a post and those waiting after it.
 func (j *Journal) group(first *post) []*post {
 	group := []*post{first}
 	size := first.size
@@ -255,7 +254,7 @@ func (j *Journal) group(first *post) []*post {
 	return group
 }
 
-// commit writes a group, file by file, and tells each post what became of it.
+// commit writes a group, file by file, and returns each post's outcome to its caller.
 func (j *Journal) commit(group []*post) {
 	start := time.Now()
 	var others []*post
@@ -286,7 +285,7 @@ func (j *Journal) commit(group []*post) {
 	}
 }
 
-// look sees whether the files that are open are as they were left.
+// look checks that the open files are unchanged.
 func (j *Journal) look() error {
 	for _, f := range j.files {
 		if err := f.look(); err != nil {
@@ -296,7 +295,7 @@ func (j *Journal) look() error {
 	return nil
 }
 
-// lose ends the journal, the first time it is called.
+// lose ends the journal, with the first error.
 func (j *Journal) lose(err error) {
 	j.mu.Lock()
 	defer j.mu.Unlock()
@@ -305,7 +304,7 @@ func (j *Journal) lose(err error) {
 	}
 }
 
-// gone is why nothing is recorded any more, or nil.
+// gone returns why nothing is recorded any more, or nil.
 func (j *Journal) gone() error {
 	j.mu.Lock()
 	defer j.mu.Unlock()
@@ -335,8 +334,8 @@ func (j *Journal) commitOne(start time.Time, model Model, posts []*post) {
 	}
 }
 
-// add writes the entries of one model to its file. A file that fails is left, cut to what it had before, and the chain goes
-// on from there.
+// add writes one model's entries to its file. A failed file is cut to what it had before and left, and the chain continues from
+// there.
 func (j *Journal) add(now time.Time, model Model, posts []*post) (int64, error) {
 	f, err := j.fileOf(now, model)
 	if err != nil {
@@ -356,13 +355,13 @@ func (j *Journal) add(now time.Time, model Model, posts []*post) (int64, error) 
 	}
 	f.last = j.chain.at.n
 	if f.size > j.options.Size || j.options.Keep > 0 && now.Sub(f.begun) > dayLong {
-		// The lines are on the disk, whatever closing says.
+		// The lines are on disk, whatever closing returns.
 		_ = j.finish(now, f)
 	}
 	return f.size - before, nil
 }
 
-// fill hands entries to the writer of a file.
+// fill passes entries to a file's writer.
 func (j *Journal) fill(f *file, posts []*post) error {
 	var text []byte
 	for _, p := range posts {
@@ -377,7 +376,7 @@ func (j *Journal) fill(f *file, posts []*post) error {
 	return nil
 }
 
-// fileOf is the file of a model, a new one where none is open.
+// fileOf returns a model's file, a new one if none is open.
 func (j *Journal) fileOf(now time.Time, model Model) (*file, error) {
 	for _, f := range j.files {
 		if f.model == model {
@@ -415,7 +414,7 @@ func (j *Journal) finish(now time.Time, f *file) error {
 	return f.close()
 }
 
-// end says that a file is written no more.
+// end notes that a file has ended.
 func (j *Journal) end(now time.Time, f *file) {
 	j.forget(f)
 	j.past = append(j.past, f.kept(now))

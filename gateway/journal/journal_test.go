@@ -37,7 +37,7 @@ func add(t *testing.T, j *Journal, model *namedModel, text string) {
 	}
 }
 
-// files are those of a folder in the order of their names, each as its lines without marks of time.
+// files returns a folder's files by name, each as its lines without times.
 func files(t *testing.T, folder string) (all [][]string) {
 	t.Helper()
 	names, err := filepath.Glob(filepath.Join(folder, "*"+suffix))
@@ -195,7 +195,7 @@ func TestOneProcessWrites(t *testing.T) {
 	}
 }
 
-// A device that is full takes what fits into its buffers, and fails when that is written.
+// A full device takes what fits into its buffers, and fails when that is written.
 func TestAFileThatFailsIsCut(t *testing.T) {
 	folder := t.TempDir()
 	a := namedModel("a")
@@ -226,7 +226,7 @@ func TestAFileThatFailsIsCut(t *testing.T) {
 	same(t, files(t, folder), [][]string{{`{"model":"a"}`, `{"n":1}`}, {`{"model":"a"}`, `{"n":3}`}})
 }
 
-// A file that failed has ended: its head is told, and the chain goes on from there.
+// A failed file has ended: its head is reported, and the chain continues from there.
 func TestHeadOfAFileThatFails(t *testing.T) {
 	folder := t.TempDir()
 	var heads []string
@@ -259,7 +259,7 @@ func TestHeadOfAFileThatFails(t *testing.T) {
 	}
 }
 
-// What is recorded is on the disk before whoever recorded it goes on.
+// What is recorded is on disk before the caller continues.
 func TestSyncedBeforeItGoesOn(t *testing.T) {
 	a := namedModel("a")
 	j := open(t, t.TempDir(), 1<<20)

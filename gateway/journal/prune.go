@@ -10,13 +10,13 @@ import (
 	"time"
 )
 
-// A kept is a file that ended.
+// A kept is an ended file.
 type kept struct {
 	path string
 	size int64
-	// first and last are the numbers of its entries; 0 of a file without any, as earlier versions wrote them.
+	// first and last are its entries' numbers; 0 for a file without any, from earlier versions.
 	first, last uint64
-	// sum is the chain at the last entry.
+	// at is the chain at the last entry.
 	at link
 	// ended is when it was last written.
 	ended time.Time
@@ -26,8 +26,8 @@ func (f *file) kept(now time.Time) kept {
 	return kept{path: f.os.Name(), size: f.synced, first: f.first, last: f.last, ended: now}
 }
 
-// prune removes the files that are not to be kept, after an entry that says so. Files are removed whole, the oldest first,
-// and only those whose entries come before all that are left.
+// prune removes the files past their time, after an entry about that. Whole files are removed, oldest first, and only those
+// whose entries come before all that remain.
 func (j *Journal) prune(now time.Time, to *file) error {
 	count := j.prunable(now)
 	if count == 0 {
@@ -56,7 +56,7 @@ func (j *Journal) prune(now time.Time, to *file) error {
 	return nil
 }
 
-// removeAll removes files, and gives the first error. One that is gone is none.
+// removeAll removes files, and returns the first error. A missing file is not an error.
 func removeAll(paths []string) (first error) {
 	for _, path := range paths {
 		if err := os.Remove(path); err != nil && !errors.Is(err, fs.ErrNotExist) && first == nil {
@@ -66,7 +66,7 @@ func removeAll(paths []string) (first error) {
 	return first
 }
 
-// sayPruned writes the entry that files are removed.
+// sayPruned writes the entry about removed files.
 func (j *Journal) sayPruned(now time.Time, to *file, names []string, last uint64) error {
 	text, err := json.Marshal(names)
 	if err != nil {
@@ -89,7 +89,7 @@ func (j *Journal) sayPruned(now time.Time, to *file, names []string, last uint64
 	return err
 }
 
-// prunable is how many of the oldest files are to be removed.
+// prunable returns how many of the oldest files are due for removal.
 func (j *Journal) prunable(now time.Time) int {
 	total := int64(0)
 	for _, it := range j.past {
@@ -108,15 +108,15 @@ func (j *Journal) prunable(now time.Time) int {
 		if last < it.last {
 			last = it.last
 		}
-		if last < j.firstBehind(at+1) {
+		if last < j.firstFrom(at+1) {
 			count = at + 1
 		}
 	}
 	return count
 }
 
-// firstBehind is the least number of an entry in the files that ended from a place on, and in those that are open.
-func (j *Journal) firstBehind(at int) uint64 {
+// firstFrom returns the least number of an entry in the ended files from at on, and in the open ones.
+func (j *Journal) firstFrom(at int) uint64 {
 	least := j.chain.at.n + 1
 	for _, it := range j.past[at:] {
 		if it.first > 0 && it.first < least {

@@ -9,27 +9,27 @@ import (
 	"path/filepath"
 )
 
-// A Read is an entry that was read. Its bytes are good until the next one is read.
+// A Read is an entry that was read. Its bytes are valid until the next one is read.
 type Read struct {
-	// Path and Line say where its last line is; lines count from 1.
+	// Path and Line are those of its last line; lines count from 1.
 	Path string
 	Line int
-	// N is its number; 0 of a line that earlier versions wrote.
+	// N is its number; 0 for a line from earlier versions.
 	N uint64
-	// Asked is the line that was asked, without its newline, or empty. About is the line about it.
+	// Asked is the request's line without its newline, or empty. About is the line about it.
 	Asked, About []byte
 	// text is what is chained.
 	text []byte
 	at   link
 }
 
-// Sum is its chain as it is written.
+// Sum returns its chain in hexadecimal.
 func (r *Read) Sum() string { return r.at.String() }
 
-// errCut says that a file ends within an entry.
+// errCut means that a file ends within an entry.
 var errCut = errors.New("the file ends within an entry")
 
-// A cursor reads the entries of a file.
+// A cursor reads a file's entries.
 type cursor struct {
 	path string
 	os   *os.File
@@ -37,7 +37,7 @@ type cursor struct {
 	line int
 	text []byte
 	read Read
-	// isChained says that the file has entries; others have lines alone.
+	// isChained means that the file has entries; others only have lines.
 	isChained bool
 }
 
@@ -57,7 +57,7 @@ func openFile(path string) (*cursor, error) {
 
 func (c *cursor) close() { c.os.Close() }
 
-// next reads an entry, or gives io.EOF.
+// next reads an entry, or returns io.EOF.
 func (c *cursor) next() (*Read, error) {
 	c.text = c.text[:0]
 	for {
@@ -82,7 +82,7 @@ func (c *cursor) next() (*Read, error) {
 	}
 }
 
-// readLine adds a line to the text, with its newline.
+// readLine appends a line with its newline to the text.
 func (c *cursor) readLine() error {
 	isFirst := len(c.text) == 0
 	for {
@@ -103,17 +103,16 @@ func (c *cursor) readLine() error {
 	}
 }
 
-// A Reader reads the entries of a folder in the order of their numbers; the lines of files that earlier versions wrote come
-// in the order of the files' names.
+// A Reader reads a folder's entries by number; lines from earlier versions come by file name.
 type Reader struct {
 	names []string
 	open  []*cursor
-	// due is the number that is expected next, newest that of the first entry of the file opened last: files are named in the
-	// order of their first entries, so none before it is in a file that is not open.
+	// due is the next expected number, newest that of the first entry in the last opened file: files are named in the order of
+	// their first entries, so no earlier entry is in an unopened file.
 	due, newest uint64
 	// Cut has the files that end within an entry.
 	Cut []string
-	// last is the cursor whose entry was given.
+	// last is the cursor of the last returned entry.
 	last *cursor
 }
 
@@ -129,7 +128,7 @@ func NewReader(folder string) (*Reader, error) {
 	return &Reader{names: names}, nil
 }
 
-// Close closes what is open.
+// Close closes the open files.
 func (r *Reader) Close() {
 	for _, c := range r.open {
 		c.close()
@@ -137,7 +136,7 @@ func (r *Reader) Close() {
 	r.open, r.names = nil, nil
 }
 
-// Next gives the next entry, or io.EOF.
+// Next returns the next entry, or io.EOF.
 func (r *Reader) Next() (*Read, error) {
 	if r.last != nil {
 		if err := r.advance(r.last); err != nil {
@@ -167,7 +166,7 @@ func (r *Reader) Next() (*Read, error) {
 	}
 }
 
-// least is the cursor whose entry has the least number.
+// least returns the cursor whose entry has the least number.
 func (r *Reader) least() (best *cursor) {
 	for _, c := range r.open {
 		if best == nil || c.read.N < best.read.N {
@@ -177,7 +176,7 @@ func (r *Reader) least() (best *cursor) {
 	return best
 }
 
-// advance reads the next entry of a cursor, which is closed at its end.
+// advance reads a cursor's next entry, and closes it at its end.
 func (r *Reader) advance(c *cursor) error {
 	_, err := c.next()
 	if errors.Is(err, errCut) {
@@ -195,7 +194,7 @@ func (r *Reader) advance(c *cursor) error {
 	return nil
 }
 
-// Files are the paths of a journal's files, in their order.
+// Files returns the paths of a journal's files, in order.
 func Files(folder string) ([]string, error) {
 	r, err := NewReader(folder)
 	if err != nil {
@@ -204,7 +203,7 @@ func Files(folder string) ([]string, error) {
 	return r.names, nil
 }
 
-// First reads the first entry of a file, or gives io.EOF.
+// First reads a file's first entry, or returns io.EOF.
 func First(path string) (*Read, error) {
 	c, err := openFile(path)
 	if err != nil {

@@ -10,13 +10,13 @@ import (
 )
 
 const (
-	// shortTail mostly has the last line.
+	// shortTail usually has the last line.
 	shortTail = 8 << 10
-	// longTail is more than the two longest entries that a journal may end with, one of them in part.
+	// longTail is more than the two longest entries at the end of a journal, one of them partial.
 	longTail = 40 << 20
 )
 
-// repair cuts from each file what was written in part, and says what files there are.
+// repair cuts partial entries from each file, and returns the files.
 func repair(folder string) (past []kept, repaired []string, err error) {
 	names, err := filepath.Glob(filepath.Join(folder, "*"+suffix))
 	if err != nil {
@@ -41,7 +41,7 @@ func repair(folder string) (past []kept, repaired []string, err error) {
 	return past, repaired, nil
 }
 
-// lastOf is the last entry of all files.
+// lastOf returns the last entry of all files.
 func lastOf(past []kept) (last link) {
 	for _, it := range past {
 		if it.at.n > last.n {
@@ -51,8 +51,8 @@ func lastOf(past []kept) (last link) {
 	return last
 }
 
-// repairFile cuts a file behind its last whole entry, looked for among its last bytes first, and says by how many bytes. An
-// empty file is removed.
+// repairFile cuts a file after its last whole entry, and returns by how many bytes. It looks at the last bytes first. It
+// removes an empty file.
 func repairFile(name string, among int64) (it kept, cut int64, err error) {
 	opened, err := os.OpenFile(name, os.O_RDWR, 0)
 	if err != nil {
@@ -85,7 +85,7 @@ func repairFile(name string, among int64) (it kept, cut int64, err error) {
 	return it, size - it.size, opened.Sync()
 }
 
-// firstIn is the number of the first entry of a file, or 0.
+// firstIn returns the number of a file's first entry, or 0.
 func firstIn(opened *os.File) uint64 {
 	if _, err := opened.Seek(0, 0); err != nil {
 		return 0
@@ -103,8 +103,8 @@ func firstIn(opened *os.File) uint64 {
 	return 0
 }
 
-// wholeBytes is how many bytes of a file end with a whole entry, or of a file without entries with a line that is JSON, looked
-// for among its last bytes; and the entry.
+// wholeBytes returns how many bytes of a file end with a whole entry, or with a JSON line in a file without entries; and the
+// entry. It looks among the last bytes.
 func (k *kept) wholeBytes(opened *os.File, size, among int64) (int64, link, error) {
 	from := size - among
 	if from < 0 {
@@ -114,7 +114,7 @@ func (k *kept) wholeBytes(opened *os.File, size, among int64) (int64, link, erro
 	if _, err := opened.ReadAt(tail, from); err != nil {
 		return 0, link{}, err
 	}
-	// What was never written is zeros after a loss of power.
+	// After a loss of power, unwritten bytes are zeros.
 	if zero := bytes.IndexByte(tail, 0); zero >= 0 {
 		tail = tail[:zero]
 	}
@@ -130,7 +130,7 @@ func (k *kept) wholeBytes(opened *os.File, size, among int64) (int64, link, erro
 	return from + int64(kept), at, nil
 }
 
-// wholeEntries is how many bytes of a text end with an entry, and that entry; its number is 0 where there is none.
+// wholeEntries returns how many bytes of a text end with an entry, and that entry; its number is 0 if there is none.
 func wholeEntries(text []byte) (int, link) {
 	end := bytes.LastIndexByte(text, '\n') + 1
 	for end > 0 {
@@ -143,8 +143,7 @@ func wholeEntries(text []byte) (int, link) {
 	return 0, link{}
 }
 
-// wholeLines is how many bytes of a text end with a line that is JSON. After a loss of power a file may end with bytes
-// that were never written.
+// wholeLines returns how many bytes of a text end with a JSON line. After a loss of power a file may end with unwritten bytes.
 func wholeLines(text []byte) int {
 	end := bytes.LastIndexByte(text, '\n') + 1
 	for end > 0 {

@@ -11,17 +11,17 @@ import (
 	"testing"
 )
 
-// before is the sum before a file, which its first entry has.
+// before is the sum before a file, in its first entry.
 var before = regexp.MustCompile(`"before":"[0-9a-f]{64}"`)
 
-// A pair is an entry of two lines: its number, and where it is.
+// A pair is an entry of two lines: its number and position.
 type pair struct {
 	number         uint64
 	path           string
 	asked, covered string
 }
 
-// pairs are the entries of a journal in their order.
+// pairs returns a journal's entries, in order.
 func pairs(t *testing.T, folder string) []pair {
 	t.Helper()
 	var found []pair
@@ -44,7 +44,8 @@ func pairs(t *testing.T, folder string) []pair {
 	return found
 }
 
-// rewrite replaces a text of one entry, and chains all entries anew, as the owner of the files could. It gives the entry's number.
+// rewrite replaces a text in one entry, and chains all entries again, as the owner of the files could. It returns the entry's
+// number.
 func rewrite(t *testing.T, folder, old, replaced string) uint64 {
 	t.Helper()
 	var changed []uint64
@@ -70,7 +71,7 @@ func rewrite(t *testing.T, folder, old, replaced string) uint64 {
 	return changed[0]
 }
 
-// A chain that its owner wrote anew shows nothing by itself: the heads that were kept elsewhere find it, from the changed entry on.
+// A rewritten chain shows nothing by itself: heads kept elsewhere reveal it, from the changed entry on.
 func TestRewrittenChains(t *testing.T) {
 	folder, heads := record(t, 40, Options{Size: 1100})
 	at := map[string]uint64{}

@@ -9,7 +9,7 @@ import (
 	"testing"
 )
 
-// smallEntries are entries of small requests.
+// smallEntries returns entries of small requests.
 func smallEntries(count int) []Entry {
 	sum := strings.Repeat("0123456789abcdef", 4)
 	asked := `{"client":"20261129T074646.763Z-b9a13761-2","inputs":{"weight":5},"service":"shipping"}` + "\n"
@@ -22,7 +22,7 @@ func smallEntries(count int) []Entry {
 	return entries
 }
 
-// processorTime is what this process took by now, in seconds.
+// processorTime returns the processor time of this process so far, in seconds.
 func processorTime(b *testing.B) float64 {
 	var used syscall.Rusage
 	if err := syscall.Getrusage(syscall.RUSAGE_SELF, &used); err != nil {
@@ -32,8 +32,8 @@ func processorTime(b *testing.B) float64 {
 	return seconds(used.Utime) + seconds(used.Stime)
 }
 
-// BenchmarkVerify reads a journal of small requests, and takes SHA-256 of the same bytes alone. MB/s are by the clock,
-// MB/processor-s of processor time.
+// BenchmarkVerify reads a journal of small requests, and computes SHA-256 of the same bytes alone. MB/s are by the clock,
+// MB/processor-s by processor time.
 func BenchmarkVerify(b *testing.B) {
 	folder := b.TempDir()
 	j, _, err := Open(folder, Options{Size: 64 << 20})

@@ -13,23 +13,23 @@ import (
 	"syscall"
 )
 
-// A Report says what was found of a journal.
+// A Report is the result of verifying a journal.
 type Report struct {
-	// Files and Entries are how many were read, Lines those of files that earlier versions wrote, which have no chain.
+	// Files and Entries count those read, Lines those in files from earlier versions, which have no chain.
 	Files, Entries, Lines uint64
-	// First and Last are the numbers of the first and the last entry, Pruned that of the last entry that was removed on purpose.
+	// First and Last are the numbers of the first and last entry, Pruned that of the last entry removed on purpose.
 	First, Last, Pruned uint64
 	// Head is the chain at the last entry.
 	Head string
-	// IsOpen says that a process writes the journal: what is written in part is no fault then.
+	// IsOpen means that a process is writing the journal: a partial entry is no fault then.
 	IsOpen bool
-	// At is the number of the entry with the sum that was asked for, or 0.
+	// At is the number of the entry with the requested sum, or 0.
 	At uint64
 	// Faults are what is wrong.
 	Faults []Fault
 }
 
-// A Fault is one thing that is wrong. Line is 0 where it is of a whole file or of what is not there.
+// A Fault is one finding. Line is 0 if it is about a whole file or something missing.
 type Fault struct {
 	Path string
 	Line int
@@ -46,22 +46,22 @@ func (f Fault) String() string {
 	return fmt.Sprintf("%s:%d: %s", f.Path, f.Line, f.Text)
 }
 
-// mostFaults is how many faults are listed.
+// mostFaults limits the listed faults.
 const mostFaults = 100
 
-// A verifier goes over the entries of a folder.
+// A verifier walks the entries of a folder.
 type verifier struct {
 	checker *checker
 	// at is the last entry.
 	at     link
 	report Report
 	head   [sha256.Size]byte
-	// path is that of the entry before, paths are all that were seen.
+	// path is that of the last entry, paths are all so far.
 	path  string
 	paths map[string]bool
 }
 
-// Verify reads a whole journal, and says what in it is not as it was recorded. With a head it says which entry has that sum.
+// Verify reads a whole journal, and reports what is not as it was recorded. With a head it reports which entry has that sum.
 func Verify(folder, head string) (*Report, error) {
 	v := &verifier{paths: map[string]bool{}}
 	if head != "" {
@@ -101,7 +101,7 @@ func (v *verifier) read(r *Reader) error {
 	}
 }
 
-// isOpen says whether a process has the journal open.
+// isOpen reports whether a process has the journal open.
 func isOpen(folder string) bool {
 	lock, err := os.Open(filepath.Join(folder, lockName))
 	if err != nil {
@@ -122,7 +122,7 @@ var (
 	prunedKey = []byte(`,"pruned":[`)
 )
 
-// take has an entry held against the chain.
+// take sends an entry to be checked against the chain.
 func (v *verifier) take(it *Read) {
 	if it.Path != v.path {
 		v.path, v.paths[it.Path] = it.Path, true
@@ -147,7 +147,7 @@ func (v *verifier) take(it *Read) {
 	}
 }
 
-// follow gives the chain before an entry, or nil where it is not known, and what is wrong with the entry's place.
+// follow returns the chain before an entry, or nil if it is not known, and what is wrong with the entry's place.
 func (v *verifier) follow(it *Read) (before *link, misplaced string) {
 	due := v.at.n + 1
 	switch {
@@ -169,7 +169,7 @@ func (v *verifier) follow(it *Read) (before *link, misplaced string) {
 	return before, misplaced
 }
 
-// beforeOf is the chain before an entry that begins a file.
+// beforeOf returns the chain before an entry that begins a file.
 func beforeOf(it *Read) (sum [sha256.Size]byte, is bool) {
 	if !bytes.HasPrefix(it.About[bytes.IndexByte(it.About, ','):], beginsKey) {
 		return sum, false
@@ -181,7 +181,7 @@ func beforeOf(it *Read) (sum [sha256.Size]byte, is bool) {
 	return sumOf(about.Before)
 }
 
-// end says what is missing at the beginning and the end.
+// end reports what is missing at the beginning and the end.
 func (v *verifier) end(cut []string, head string) {
 	r := &v.report
 	for _, path := range cut {

@@ -1,18 +1,18 @@
-// Package lines holds JSON texts to what the engine takes, before they reach it: the texts that it reads, the length and
-// the nesting of a line, and the values that an input may have. What passes here is not refused there.
+// Package lines checks JSON texts before they reach the engine: syntax, length and nesting of a line, and the values of inputs.
+// The engine refuses nothing that passes here.
 package lines
 
 // Limits of the engine.
 const (
-	// MaxLine is the most bytes of a line, its newline not counted.
+	// MaxLine is the largest length of a line in bytes, without its newline.
 	MaxLine = 1_048_576
-	// MaxNesting is how deep lists and objects of a line may be nested.
+	// MaxNesting is the deepest nesting of lists and objects in a line.
 	MaxNesting = 127
-	// MaxNodes is the most nodes of the value of one input: null, a boolean, a number and a text are one node, a list or
-	// a context is one more than its parts have together.
+	// MaxNodes is the largest number of nodes in an input's value: null, a boolean, a number or a text is one node, a list or
+	// context one more than its parts together.
 	MaxNodes = 10_000
-	// MaxDepth is how deep the value of one input may be: null, a boolean, a number, a text and an empty list or context
-	// have depth 1, any other list or context one more than its deepest part.
+	// MaxDepth is the greatest depth of an input's value: null, a boolean, a number, a text and an empty list or context have
+	// depth 1, any other list or context one more than its deepest part.
 	MaxDepth = 100
 	// MaxNumber is the greatest number, and -MaxNumber the least.
 	MaxNumber = 9_223_372_036_854_775_807

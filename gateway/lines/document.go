@@ -10,26 +10,26 @@ import (
 // A Document is a JSON text with the places of its values.
 type Document struct {
 	text []byte
-	// spelled is the same text: what strings without escapes stand for are pieces of it.
+	// spelled is the same text; strings without escapes are slices of it.
 	spelled string
-	// starts are where its lines but the first begin.
+	// starts has the offsets of all lines but the first.
 	starts []int32
-	// parts are those of all lists and objects, the parts of each in a row. Of an object they are its keys and its values by turns.
+	// parts has the parts of each list and object in a row, for objects keys and values alternating.
 	parts []Node
-	// open are the parts of lists and objects whose end is not read yet.
+	// open has the parts of lists and objects that are still open.
 	open []Node
-	// Whole is the value that the text is.
+	// Whole is the whole value.
 	Whole Node
 }
 
-// A Node is a value of a document.
+// A Node is a value in a document.
 type Node struct {
 	start, end int32
-	// first is where its parts begin in the document's, count how many they are.
+	// first is the index of its first part in the document, count how many it has.
 	first, count int32
 }
 
-// NewDocument reads a text. It is nil where the text is no JSON.
+// NewDocument reads a text. It returns nil if the text is not JSON.
 func NewDocument(text []byte) *Document {
 	d := &Document{}
 	if !d.Read(text) {
@@ -38,7 +38,7 @@ func NewDocument(text []byte) *Document {
 	return d
 }
 
-// Read reads a text in place of the one that was read before, whose nodes are of no use then. False says that it is no JSON.
+// Read replaces the text, and makes the nodes of the last one invalid. It returns false if the text is not JSON.
 func (d *Document) Read(text []byte) bool {
 	*d = Document{text: text, starts: d.starts[:0], parts: d.parts[:0], open: d.open[:0]}
 	s := scanner{text: text, nesting: MaxNesting}
@@ -58,7 +58,7 @@ func (d *Document) Read(text []byte) bool {
 	}
 }
 
-// node reads a value with its parts.
+// node reads a value and its parts.
 func (d *Document) node(s *scanner) (Node, bool) {
 	value := Node{start: int32(s.at)}
 	ok := false
@@ -78,7 +78,7 @@ func (d *Document) node(s *scanner) (Node, bool) {
 	return value, ok
 }
 
-// nodes reads the parts of a list or an object.
+// nodes reads the parts of a list or object.
 func (d *Document) nodes(s *scanner, value *Node, end byte) bool {
 	if !s.enter() {
 		return false
@@ -110,7 +110,7 @@ func (d *Document) nodes(s *scanner, value *Node, end byte) bool {
 	}
 }
 
-// keyNode reads a key of an object, and the colon behind it.
+// keyNode reads an object's key and the colon.
 func (d *Document) keyNode(s *scanner) bool {
 	key := Node{start: int32(s.at)}
 	if !s.key() {
@@ -121,7 +121,7 @@ func (d *Document) keyNode(s *scanner) bool {
 	return s.colon()
 }
 
-// key goes over a key of an object.
+// key skips an object's key.
 func (s *scanner) key() bool {
 	if s.peek() != '"' {
 		return s.fail(reasonKey)
@@ -129,7 +129,7 @@ func (s *scanner) key() bool {
 	return s.str()
 }
 
-// colon goes over the colon behind a key, and the blanks around it.
+// colon skips the colon after a key, and the blanks around it.
 func (s *scanner) colon() bool {
 	s.blanks()
 	if s.peek() != ':' {
@@ -140,7 +140,7 @@ func (s *scanner) colon() bool {
 	return true
 }
 
-// Kind is the first byte of a value: of a number '0', of true and false 't', of null 'n'.
+// Kind returns the first byte of a value: '0' for a number, 't' for true and false, 'n' for null.
 func (d *Document) Kind(v Node) byte {
 	switch c := d.text[v.start]; c {
 	case '{', '[', '"', 'n':
@@ -151,10 +151,10 @@ func (d *Document) Kind(v Node) byte {
 	return '0'
 }
 
-// Raw is a value as it is written.
+// Raw returns a value as written.
 func (d *Document) Raw(v Node) []byte { return d.text[v.start:v.end] }
 
-// Text is what a string stands for; false of what is none.
+// Text returns the value of a string; false for others.
 func (d *Document) Text(v Node) (string, bool) {
 	if d.Kind(v) != '"' {
 		return "", false
@@ -162,7 +162,7 @@ func (d *Document) Text(v Node) (string, bool) {
 	return d.unquoted(v), true
 }
 
-// unquoted is what a string stands for.
+// unquoted returns the value of a string.
 func (d *Document) unquoted(v Node) string {
 	if inner := d.spelled[v.start+1 : v.end-1]; strings.IndexByte(inner, '\\') < 0 {
 		return inner
@@ -170,10 +170,10 @@ func (d *Document) unquoted(v Node) string {
 	return Text(d.Raw(v))
 }
 
-// partsOf are the items of a list, and the keys and the values of an object by turns.
+// partsOf returns a list's items, or an object's keys and values alternating.
 func (d *Document) partsOf(v Node) []Node { return d.parts[v.first : v.first+v.count] }
 
-// Keys are the keys and the values of an object by turns; false of what is none.
+// Keys returns an object's keys and values alternating; false for others.
 func (d *Document) Keys(v Node) ([]Node, bool) {
 	if d.Kind(v) != '{' {
 		return nil, false
@@ -181,10 +181,10 @@ func (d *Document) Keys(v Node) ([]Node, bool) {
 	return d.partsOf(v), true
 }
 
-// IsText tells whether a string stands for this text.
+// IsText reports whether a string has this value.
 func (d *Document) IsText(v Node, text string) bool { return d.unquoted(v) == text }
 
-// Items are those of a list; nil of what is none.
+// Items returns a list's items; nil for others.
 func (d *Document) Items(v Node) []Node {
 	if d.Kind(v) != '[' {
 		return nil
@@ -192,7 +192,7 @@ func (d *Document) Items(v Node) []Node {
 	return d.partsOf(v)
 }
 
-// Item is one of a list.
+// Item returns an item of a list.
 func (d *Document) Item(v Node, index int) (Node, bool) {
 	items := d.Items(v)
 	if index < 0 || index >= len(items) {
@@ -201,7 +201,7 @@ func (d *Document) Item(v Node, index int) (Node, bool) {
 	return items[index], true
 }
 
-// Member is what an object has under a key: of several the last, as the engine reads it.
+// Member returns the value under a key of an object. If the key is repeated the last counts, as in the engine.
 func (d *Document) Member(v Node, key string) (Node, bool) {
 	if d.Kind(v) != '{' {
 		return Node{}, false
@@ -221,8 +221,7 @@ type Keyed struct {
 	Value Node
 }
 
-// Members are those of an object in the order of their keys' bytes, of several with one key the last alone; nil of what is no
-// object.
+// Members returns an object's members sorted by key; nil for others. Of a repeated key only the last member counts.
 func (d *Document) Members(v Node) []Keyed {
 	members, _ := d.InOrder(v)
 	if len(members) > fewMembers {
@@ -237,8 +236,8 @@ func (d *Document) Members(v Node) []Keyed {
 	return members
 }
 
-// InOrder are the members of an object in the order of the text, of several with one key the last alone; and the keys that come
-// more than once, each where it comes for the second time. Both are nil of what is no object.
+// InOrder returns an object's members in text order, of a repeated key only the last, and each repeated key at its second
+// place. Both are nil for other values.
 func (d *Document) InOrder(v Node) (members, repeated []Keyed) {
 	if d.Kind(v) != '{' {
 		return nil, nil
@@ -269,7 +268,7 @@ func (d *Document) InOrder(v Node) (members, repeated []Keyed) {
 	return kept, repeated
 }
 
-// areApart tells whether no two members have one key.
+// areApart reports whether all members have different keys.
 func areApart(members []Keyed) bool {
 	for at := range members {
 		for before := 0; before < at; before++ {
@@ -281,7 +280,7 @@ func areApart(members []Keyed) bool {
 	return true
 }
 
-// Second is where a key comes for the second time in an object; false where it doesn't.
+// Second returns the second place of a key in an object; false if there is none.
 func (d *Document) Second(v Node, key string) (Node, bool) {
 	if d.Kind(v) != '{' {
 		return Node{}, false
@@ -298,7 +297,7 @@ func (d *Document) Second(v Node, key string) (Node, bool) {
 	return Node{}, false
 }
 
-// Position is the line and the column of a value's first byte, each from 1; a column is a byte.
+// Position returns the line and column of a value's first byte, both from 1. Columns are bytes.
 func (d *Document) Position(v Node) (line, column int) {
 	before := sort.Search(len(d.starts), func(i int) bool { return d.starts[i] > v.start })
 	start := int32(0)
@@ -308,7 +307,7 @@ func (d *Document) Position(v Node) (line, column int) {
 	return before + 1, int(v.start-start) + 1
 }
 
-// Go is a value as Tree gives it.
+// Go returns a value as Tree does.
 func (d *Document) Go(v Node) any {
 	switch d.Kind(v) {
 	case '{':

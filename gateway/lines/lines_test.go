@@ -11,11 +11,11 @@ import (
 	"testing"
 )
 
-// aModel has the service s, which takes a and gives it back.
+// aModel has the service s, which returns its input a.
 const aModel = `{"model":{"inputs":["a"],"decisions":[{"name":"d","needs":["a"],"expr":"a"}],` +
 	`"services":[{"name":"s","outputs":["d"],"encapsulated":[],"inputDecisions":[],"inputData":["a"]}]}}`
 
-// desk is the engine's file.
+// desk returns the engine's path.
 func desk() string {
 	if path := os.Getenv("DESK_ENGINE"); path != "" {
 		return path
@@ -23,7 +23,7 @@ func desk() string {
 	return "../../dist/desk"
 }
 
-// refusals asks the engine which of these inputs it refuses, and with which word: "" is none.
+// refusals returns the word by which the engine refuses each input; "" if it doesn't.
 func refusals(t *testing.T, inputs []string) []string {
 	t.Helper()
 	var in bytes.Buffer
@@ -62,7 +62,7 @@ func refusals(t *testing.T, inputs []string) []string {
 	return words
 }
 
-// refused is what this package says of the inputs of a request.
+// refused returns what this package says about a request's inputs.
 func refused(text string) string {
 	members, other, fault := Members([]byte(text), MaxNesting-1)
 	switch {
@@ -86,7 +86,7 @@ func nested(open, inner, end string, times int) string {
 	return strings.Repeat(open, times) + inner + strings.Repeat(end, times)
 }
 
-// written are texts at the limits, with what the engine's documents say of them.
+// written has texts at the limits, and what the engine's documents say about them.
 var written = []struct{ text, word string }{
 	{`{}`, ""},
 	{`{"a":1}`, ""},
@@ -166,7 +166,7 @@ func TestAsWritten(t *testing.T) {
 	}
 }
 
-// changed is a text with some bytes removed, doubled or set to others.
+// changed returns a text with some bytes removed, doubled or changed.
 func changed(random *rand.Rand, text string) string {
 	const bytesOf = "{}[]\",:\\u0019.eE-+dDab \ttrufalsn/\x01\x80\xc3"
 	changed := []byte(text)
@@ -184,7 +184,7 @@ func changed(random *rand.Rand, text string) string {
 	return strings.ReplaceAll(string(changed), "\n", " ")
 }
 
-// A request whose inputs are changed so that they end early, and take what follows with them, is another line altogether.
+// TestAsTheEngineReads changes inputs of requests. Inputs that end early and swallow the rest make another line altogether.
 func TestAsTheEngineReads(t *testing.T) {
 	random := rand.New(rand.NewSource(59))
 	var texts []string
@@ -195,7 +195,7 @@ func TestAsTheEngineReads(t *testing.T) {
 		}
 		text := changed(random, from)
 		if _, fault := Whole([]byte(text), MaxNesting-1); fault != nil {
-			// What is no value by itself is none within the line only where the line is none.
+			// A text that is not a value by itself may still make the whole line valid.
 			if whole := `{"client":"x","inputs":` + text + `,"service":"s"}`; json.Valid([]byte(whole)) {
 				continue
 			}

@@ -1,13 +1,13 @@
 package lines
 
-// Parts are those of a lawful JSON list or object that is written without blanks, each as it is written: the items of a list, and
-// the keys and values of an object by turns. The time is in proportion to the length of the text, and no part is copied.
+// Parts returns the parts of a valid JSON list or object without blanks, as written: items, or keys and values alternating. It
+// takes time proportional to the text's length, and copies nothing.
 func Parts(text []byte) (parts [][]byte) {
 	EachPart(text, func(part []byte) { parts = append(parts, part) })
 	return parts
 }
 
-// EachPart hands each of the parts to take.
+// EachPart calls take with each part.
 func EachPart(text []byte, take func(part []byte)) {
 	begin, depth := 1, 0
 	for at := 0; at < len(text); at++ {
@@ -37,7 +37,7 @@ func EachPart(text []byte, take func(part []byte)) {
 	}
 }
 
-// quoteEnd is where the second quote of a string is.
+// quoteEnd returns the index of a string's second quote.
 func quoteEnd(text []byte, at int) int {
 	for at++; at < len(text) && text[at] != '"'; at++ {
 		if text[at] == '\\' {

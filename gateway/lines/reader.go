@@ -2,12 +2,12 @@ package lines
 
 import "bytes"
 
-// A Reader reads objects that are alike, one after the other, each in one pass. It keeps their keys, so that most of them cost
-// no memory, and what it gives is good until it reads the next.
+// A Reader reads similar objects one after another, each in one pass. It caches their keys, so most take no memory. Results are
+// valid until the next call.
 type Reader struct {
-	// Within is a key: where an object stands under it, the members of that are given too.
+	// Within is a key: members of an object under it are returned too.
 	Within string
-	// Names are looked for among the keys of all objects.
+	// Names are searched among the keys of all objects.
 	Names  map[string]string
 	object Object
 	keys   map[string]string
@@ -15,15 +15,15 @@ type Reader struct {
 
 // An Object is what a Reader found.
 type Object struct {
-	// Members are those of the object itself, Inner those of the object that stands under the key Within.
+	// Members has the object's own members, Inner those of the object under the key Within.
 	Members, Inner []Member
-	// HasName says that HasKey finds one of the names.
+	// HasName means that HasKey finds one of the names.
 	HasName bool
-	// Depth is how deep the object is, as a Span has it.
+	// Depth is the object's depth, as in Span.
 	Depth int
 }
 
-// mostKeys is how many keys a Reader keeps.
+// mostKeys limits the cached keys.
 const mostKeys = 1000
 
 // Read reads a text as Members does.
@@ -45,7 +45,7 @@ func (r *Reader) Read(text []byte, nesting int) (found *Object, other bool, faul
 	return it, false, s.ended(ok)
 }
 
-// key is the text of a key that stands in quotes.
+// key returns the value of a quoted key.
 func (r *Reader) key(quoted []byte) string {
 	if key, is := r.keys[string(quoted)]; is {
 		return key
@@ -60,7 +60,7 @@ func (r *Reader) key(quoted []byte) string {
 	return key
 }
 
-// noteKey looks whether a key is one of the names, or has an escape.
+// noteKey notes whether a key is one of the names, or has an escape.
 func (r *Reader) noteKey(quoted []byte) {
 	if r.object.HasName || len(r.Names) == 0 {
 		return
@@ -70,12 +70,12 @@ func (r *Reader) noteKey(quoted []byte) {
 	r.object.HasName = is || bytes.IndexByte(key, '\\') >= 0
 }
 
-// takes says whether the members of what stands under a key of the outermost object are taken.
+// takes reports whether the members under a key of the outermost object are returned.
 func (r *Reader) takes(quoted []byte) bool {
 	if string(quoted[1:len(quoted)-1]) != r.Within {
 		return false
 	}
-	// Of several members with this key the last counts.
+	// Of a repeated key the last counts.
 	r.object.Inner = r.object.Inner[:0]
 	return true
 }

@@ -5,7 +5,7 @@ import (
 	"testing"
 )
 
-// A Reader gives what Members and HasKey do, and the members within in the same pass.
+// TestReader checks that a Reader returns what Members and HasKey do, and the inner members in the same pass.
 func TestReader(t *testing.T) {
 	names := map[string]string{"net price": "net_price"}
 	r := Reader{Within: "inputs", Names: names}

@@ -2,8 +2,8 @@ package lines
 
 import "bytes"
 
-// HasKey says whether some object of a lawful JSON text, at whatever depth, has a key that the table has. A key that is
-// written with an escape counts as one.
+// HasKey reports whether any object of a valid JSON text has a key that is in the table, at any depth. A key with an escape
+// counts as one.
 func HasKey(text []byte, table map[string]string) bool {
 	s := scanner{text: text}
 	for {
@@ -31,7 +31,7 @@ func has(object map[string]any, key string) bool {
 	return is
 }
 
-// Renamed gives a value that Tree read other keys. One stays as it is where the object has the other key too.
+// Renamed returns a value of Tree with keys renamed. A key is kept if the object has the new one too.
 func Renamed(value any, table map[string]string) any {
 	switch value := value.(type) {
 	case []any:

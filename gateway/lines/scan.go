@@ -6,11 +6,11 @@ import (
 	"unicode/utf8"
 )
 
-// A SyntaxFault says where a text stops to be JSON.
+// A SyntaxFault is where a text stops being JSON.
 type SyntaxFault struct {
-	// Offset is the number of the byte at which reading stops; the first is 0.
+	// Offset is the byte at which reading stops, from 0.
 	Offset int
-	// Line and Column are those of this byte, each from 1; a column is a byte.
+	// Line and Column are those of this byte, from 1. Columns are bytes.
 	Line, Column int
 	// Reason says what is wrong there.
 	Reason string
@@ -20,43 +20,43 @@ func (f *SyntaxFault) Error() string {
 	return fmt.Sprintf("line %d, column %d: %s", f.Line, f.Column, f.Reason)
 }
 
-// A Span is a value within a text, with what the engine's limits on values ask of it. Where a key stands twice in some
-// object of it, both members are counted here, though the engine keeps the last alone.
+// A Span is a value within a text, with its size for the engine's limits. Both members of a repeated key are counted, though
+// the engine keeps only the last.
 type Span struct {
 	// Start and End bound the value's text.
 	Start, End int
-	// Nodes and Depth are those of the value.
+	// Nodes and Depth are the value's size.
 	Nodes, Depth int
-	// Bad is the place of the first number in it that is not whole or out of range, or -1.
+	// Bad is the offset of the first number in it that is not whole or is out of range, or -1.
 	Bad int
 }
 
-// A Member is one of an object's.
+// A Member is a member of an object.
 type Member struct {
 	Key   string
 	Value Span
 }
 
-// fewMembers is how many members most objects have at most.
+// fewMembers is enough for most objects.
 const fewMembers = 4
 
-// A scanner goes through a text once.
+// A scanner reads a text once.
 type scanner struct {
 	text []byte
 	at   int
-	// nesting is how many more lists and objects may begin here.
+	// nesting is how many more lists and objects may be opened here.
 	nesting int
 	reason  string
-	// reader is nil, or is told of keys; outermost is the nesting within the outermost object then.
+	// reader is nil or gets the keys; outermost is the nesting within the outermost object then.
 	reader    *Reader
 	outermost int
-	// isInner says that the members of the value that is read next are taken.
+	// isInner means that the next value's members are returned.
 	isInner bool
 }
 
-// Members reads a text that is an object, of which the engine allows this much nesting, and gives its members in their
-// order. Other is true where the text is another JSON value, of which nothing is given. The text is read as the engine
-// does: UTF-8, no lone surrogates, no number out of the range of floats.
+// Members reads a text that is an object with at most this nesting, and returns its members in order. Other is true if the text
+// is another JSON value; its parts are not returned. The text is read as the engine does: UTF-8, no lone surrogates, no number
+// outside the range of floats.
 func Members(text []byte, nesting int) (members []Member, other bool, fault *SyntaxFault) {
 	s := scanner{text: text, nesting: nesting}
 	s.blanks()
@@ -69,7 +69,7 @@ func Members(text []byte, nesting int) (members []Member, other bool, fault *Syn
 	return members, false, s.ended(ok)
 }
 
-// Items reads a text that is a list, and gives the places of its items.
+// Items reads a text that is a list, and returns its items.
 func Items(text []byte, nesting int) ([]Span, *SyntaxFault) {
 	s := scanner{text: text, nesting: nesting}
 	s.blanks()
@@ -85,7 +85,7 @@ func Whole(text []byte, nesting int) (Span, *SyntaxFault) {
 	return s.whole()
 }
 
-// Begins is the first byte of a text that is no blank, and 0 where there is none.
+// Begins returns the first byte of a text that is not a blank, or 0.
 func Begins(text []byte) byte {
 	s := scanner{text: text}
 	s.blanks()
@@ -97,7 +97,7 @@ func (s *scanner) whole() (Span, *SyntaxFault) {
 	return span, s.ended(ok)
 }
 
-// ended gives the fault, if there is one, behind a value that was or wasn't read.
+// ended returns the fault, if any, after a value.
 func (s *scanner) ended(ok bool) *SyntaxFault {
 	if ok {
 		s.blanks()
@@ -134,7 +134,7 @@ func invalidAt(text []byte) int {
 	return at
 }
 
-// The reasons that StopOf tells apart.
+// Reasons that StopOf distinguishes.
 const (
 	reasonNesting = "lists and objects are nested over 127 deep"
 	reasonDigit   = "a digit is due"
@@ -143,7 +143,7 @@ const (
 	reasonColon   = "a colon is due"
 )
 
-// fail notes the first reason, and gives false.
+// fail notes the first reason, and returns false.
 func (s *scanner) fail(reason string) bool {
 	if s.reason == "" {
 		s.reason = reason
@@ -198,7 +198,7 @@ func (s *scanner) value() (Span, bool) {
 	return span, ok
 }
 
-// add counts a part of a list or a context.
+// add counts a part of a list or context.
 func (v *Span) add(part Span) {
 	v.Nodes += part.Nodes
 	if v.Depth <= part.Depth {
@@ -219,7 +219,7 @@ func (s *scanner) enter() bool {
 	return true
 }
 
-// next goes behind a comma, or to the end of a list or an object; last says which.
+// next moves past a comma, or to the end of a list or object; last says which.
 func (s *scanner) next(end byte) (last, ok bool) {
 	s.blanks()
 	switch s.peek() {
@@ -259,7 +259,7 @@ func (s *scanner) list(take func(Span)) bool {
 	}
 }
 
-// object hands each member of an object to take: its key as it is written, in quotes, and its value.
+// object calls take with each member of an object: its quoted key, and its value.
 func (s *scanner) object(take func(key []byte, value Span)) bool {
 	if !s.enter() {
 		return false
@@ -308,7 +308,7 @@ func (s *scanner) word() bool {
 	return s.fail("a value is due")
 }
 
-// digits goes over digits, and says whether there is one.
+// digits skips digits, and reports whether there is any.
 func (s *scanner) digits() bool {
 	start := s.at
 	for s.at < len(s.text) && s.text[s.at] >= '0' && s.text[s.at] <= '9' {
@@ -317,7 +317,7 @@ func (s *scanner) digits() bool {
 	return s.at > start || s.fail(reasonDigit)
 }
 
-// number reads a number: whole says that it has neither point nor exponent, is in range and not "-0".
+// number reads a number. whole means that it has no point or exponent, is in range and not "-0".
 func (s *scanner) number() (whole, ok bool) {
 	start := s.at
 	if s.peek() == '-' {
@@ -349,7 +349,7 @@ func (s *scanner) number() (whole, ok bool) {
 	return s.ranged(start, whole)
 }
 
-// ranged holds a number that was read against the ranges.
+// ranged checks the range of a number.
 func (s *scanner) ranged(start int, whole bool) (bool, bool) {
 	text := s.text[start:s.at]
 	if whole && len(text) < 19 {

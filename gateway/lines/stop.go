@@ -5,19 +5,19 @@ import (
 	"unicode/utf8"
 )
 
-// A Stop is where a text stops to be JSON.
+// A Stop is where a text stops being JSON.
 type Stop struct {
-	// Line and Column are those of the byte at which it stops, each from 1. At the end of a text the column is that of its
-	// last byte, 0 where the last line is empty.
+	// Line and Column are those of the byte at which it stops, from 1. At the end of a text the column is that of its last
+	// byte, or 0 if the last line is empty.
 	Line, Column int
 	// Due is what could be there, or what is wrong with what is there.
 	Due Due
 }
 
-// A Due is what could be where a text stops to be JSON, or what is wrong there.
+// A Due is what could be at a stop, or what is wrong there.
 type Due string
 
-// What may be due.
+// The values of Due.
 const (
 	DueValue          Due = "a value"
 	DueValueOrBracket Due = `a value or "]"`
@@ -28,7 +28,7 @@ const (
 	DueCommaOrBrace   Due = `"," or "}"`
 	DueQuote          Due = "the quote that ends the string"
 	DueEnd            Due = "the end"
-	// WrongString, WrongNumber, LargeNumber, TooDeep and NoUTF8 are sentences of their own.
+	// WrongString, WrongNumber, LargeNumber, TooDeep and NoUTF8 are whole sentences.
 	WrongString Due = `a string has no line end and no control character, and behind \ one of " \ / b f n r t u`
 	WrongNumber Due = "a number has no sign but - and no 0 before its digits, and digits on both sides of a point"
 	LargeNumber Due = "the number before it is over 1.8e308"
@@ -45,8 +45,8 @@ func (d Due) Sentence() string {
 	return string(d) + " is due"
 }
 
-// StopOf is where a text stops to be JSON, as the engine reads it; nil where it is JSON. A text that is no UTF-8 stops at the
-// first byte that is none, whatever else is wrong with it.
+// StopOf returns where a text stops being JSON as the engine reads it; nil if it is JSON. A text that is not UTF-8 stops at its
+// first invalid byte, no matter what else is wrong.
 func StopOf(text []byte) *Stop {
 	if !utf8.Valid(text) {
 		return placedStop(text, invalidAt(text), NoUTF8)
@@ -62,13 +62,13 @@ func StopOf(text []byte) *Stop {
 	case reasonDigit:
 		return placedStop(text, runStart(text, at), WrongNumber)
 	case reasonRange:
-		return placedStop(text, behindNumber(text, at), LargeNumber)
+		return placedStop(text, afterNumber(text, at), LargeNumber)
 	default:
 		return stopAt(text, at)
 	}
 }
 
-// stopAt is the stop of a text whose reading failed at this byte.
+// stopAt returns the stop of a text that failed at this byte.
 func stopAt(text []byte, at int) *Stop {
 	front := frontOf(text[:at])
 	if front.isText {
@@ -78,7 +78,7 @@ func stopAt(text []byte, at int) *Stop {
 		return placedStop(text, front.quote, WrongString)
 	}
 	if at < len(text) && !isBetween(text[at]) {
-		// What is wrong may be the end of a word or a number that seemed whole.
+		// The fault may be the end of a word or number that seemed whole.
 		if start := runStart(text, at); start < at {
 			at, front = start, frontOf(text[:start])
 		}
@@ -90,7 +90,7 @@ func stopAt(text []byte, at int) *Stop {
 	return placedStop(text, at, due)
 }
 
-// isCutWithin tells whether a text ends within a string, or within an escape of it that is lawful so far.
+// isCutWithin reports whether a text ends within a string, or within an escape that is valid so far.
 func isCutWithin(text []byte, at int) bool {
 	rest := text[at:]
 	if len(rest) < 2 {
@@ -107,7 +107,7 @@ func isCutWithin(text []byte, at int) bool {
 	return true
 }
 
-// isBetween tells whether a byte ends a word or a number.
+// isBetween reports whether a byte ends a word or a number.
 func isBetween(c byte) bool {
 	switch c {
 	case ' ', '\t', '\r', '\n', ',', ':', '[', ']', '{', '}':
@@ -116,7 +116,7 @@ func isBetween(c byte) bool {
 	return false
 }
 
-// runStart is where the word or number begins that goes on at this byte.
+// runStart returns the start of the word or number at this byte.
 func runStart(text []byte, at int) int {
 	for at > 0 && !isBetween(text[at-1]) && text[at-1] != '"' {
 		at--
@@ -124,8 +124,8 @@ func runStart(text []byte, at int) int {
 	return at
 }
 
-// behindNumber is where the next token begins behind a number.
-func behindNumber(text []byte, at int) int {
+// afterNumber returns where the token after a number begins.
+func afterNumber(text []byte, at int) int {
 	for at < len(text) && !isBetween(text[at]) {
 		at++
 	}
@@ -134,7 +134,7 @@ func behindNumber(text []byte, at int) int {
 	return s.at
 }
 
-// placedStop is a stop at a byte.
+// placedStop returns a stop at a byte.
 func placedStop(text []byte, at int, due Due) *Stop {
 	if at > len(text) {
 		at = len(text)
@@ -149,17 +149,17 @@ func placedStop(text []byte, at int, due Due) *Stop {
 	return &Stop{line, column, due}
 }
 
-// A front is the beginning of a JSON text.
+// A front is a prefix of a JSON text.
 type front struct {
-	// isText says that it ends within a string, which begins at quote.
+	// isText means that it ends within a string, which begins at quote.
 	isText bool
 	quote  int
-	// open says of each list and object that is open whether it is an object.
+	// open says, for each open list or object, whether it is an object.
 	open []bool
 	due  Due
 }
 
-// frontOf goes over the beginning of a JSON text.
+// frontOf reads a prefix of a JSON text.
 func frontOf(text []byte) front {
 	f := front{due: DueValue}
 	for at := 0; at < len(text); at++ {
@@ -167,7 +167,7 @@ func frontOf(text []byte) front {
 		case f.isText && c == '\\':
 			at++
 		case f.isText && c == '"':
-			f.isText, f.due = false, f.behindText()
+			f.isText, f.due = false, f.afterText()
 		case f.isText:
 		case c == '"':
 			f.isText, f.quote = true, at
@@ -178,7 +178,7 @@ func frontOf(text []byte) front {
 	return f
 }
 
-// take goes over a byte outside strings.
+// take reads a byte outside strings.
 func (f *front) take(c byte) {
 	switch c {
 	case ' ', '\t', '\r', '\n':
@@ -197,20 +197,20 @@ func (f *front) take(c byte) {
 		if len(f.open) > 0 {
 			f.open = f.open[:len(f.open)-1]
 		}
-		f.due = f.behindValue()
+		f.due = f.afterValue()
 	default:
-		f.due = f.behindValue()
+		f.due = f.afterValue()
 	}
 }
 
-func (f *front) behindText() Due {
+func (f *front) afterText() Due {
 	if f.due == DueKey || f.due == DueKeyOrBrace {
 		return DueColon
 	}
-	return f.behindValue()
+	return f.afterValue()
 }
 
-func (f *front) behindValue() Due {
+func (f *front) afterValue() Due {
 	switch {
 	case len(f.open) == 0:
 		return DueEnd

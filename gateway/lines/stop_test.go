@@ -2,7 +2,7 @@ package lines
 
 import "testing"
 
-// TestStops holds where texts stop to be JSON against what was worked out by hand.
+// TestStops compares stops with those worked out by hand.
 func TestStops(t *testing.T) {
 	for _, row := range []struct {
 		text         string
@@ -48,7 +48,7 @@ func TestStops(t *testing.T) {
 	}
 }
 
-// TestDocument finds values by their places, also where a key comes twice or is written with escapes.
+// TestDocument finds values by place, also for repeated keys and keys with escapes.
 func TestDocument(t *testing.T) {
 	d := NewDocument([]byte("{\"a\":[1,\n {\"b\":2}],\"c\":3, \"\\u0061\":[true,null]}"))
 	if d == nil {
@@ -73,7 +73,7 @@ func TestDocument(t *testing.T) {
 	}
 }
 
-// TestParts parts lists and objects one level deep.
+// TestParts splits lists and objects one level deep.
 func TestParts(t *testing.T) {
 	for text, due := range map[string]int{`[]`: 0, `{}`: 0, `[1]`: 1, `[1,[2,3],"a,\"]"]`: 3, `{"a":1,"b":{"c":[1,2]}}`: 4} {
 		if parts := Parts([]byte(text)); len(parts) != due {

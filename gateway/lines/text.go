@@ -9,7 +9,7 @@ import (
 	"unicode/utf8"
 )
 
-// plain are the bytes that stand for themselves within quotes.
+// plain are the bytes that are valid within quotes unescaped.
 var plain = func() (table [256]bool) {
 	for c := range table {
 		table[c] = c >= 0x20 && c != '"' && c != '\\'
@@ -17,7 +17,7 @@ var plain = func() (table [256]bool) {
 	return table
 }()
 
-// str goes over a string, from its first quote.
+// str skips a string, from its first quote.
 func (s *scanner) str() bool {
 	s.at++
 	for {
@@ -43,7 +43,7 @@ func (s *scanner) str() bool {
 	}
 }
 
-// escape goes over an escape, of which two may stand for one character.
+// escape skips an escape; two of them may be one character.
 func (s *scanner) escape() bool {
 	if s.at+1 >= len(s.text) {
 		s.at = len(s.text)
@@ -73,10 +73,10 @@ func (s *scanner) escape() bool {
 	return true
 }
 
-// hexadecimalDigits has each digit where the last four bits of its place are its value.
+// hexadecimalDigits has each digit at an index whose last four bits are its value.
 const hexadecimalDigits = "0123456789abcdef0123456789ABCDEF"
 
-// unit is the number of an escape of the form \uXXXX at a place.
+// unit returns the number of an escape \uXXXX.
 func (s *scanner) unit(at int) (int, bool) {
 	if at+6 > len(s.text) || s.text[at] != '\\' || s.text[at+1] != 'u' {
 		return 0, false
@@ -92,7 +92,7 @@ func (s *scanner) unit(at int) (int, bool) {
 	return n, true
 }
 
-// Text is what a JSON string, in its quotes, stands for. The string is lawful.
+// Text returns the value of a valid JSON string in its quotes.
 func Text(quoted []byte) string {
 	inner := quoted[1 : len(quoted)-1]
 	escape := bytes.IndexByte(inner, '\\')
@@ -112,7 +112,7 @@ func Text(quoted []byte) string {
 	return text.String()
 }
 
-// unescaped is the character that the escape at the start of a text stands for, and how many bytes the escape has.
+// unescaped returns the character of the escape at the start of a text, and the escape's length.
 func unescaped(text []byte) (rune, int) {
 	switch c := text[1]; c {
 	case 'b':
@@ -140,8 +140,7 @@ func unescaped(text []byte) (rune, int) {
 
 const hexadecimal = "0123456789abcdef"
 
-// AppendQuoted adds a text as a JSON string, with the escapes that the engine writes: of quotes, backslashes and control
-// characters alone.
+// AppendQuoted adds a text as a JSON string. It escapes quotes, backslashes and control characters, as the engine does.
 func AppendQuoted(to []byte, text string) []byte {
 	to = append(to, '"')
 	for at := 0; at < len(text); at++ {
@@ -168,8 +167,8 @@ func AppendQuoted(to []byte, text string) []byte {
 	return append(to, '"')
 }
 
-// OneLine is a lawful JSON text without line ends, and where that makes it no longer, without any blank between its
-// tokens. It gives the text itself where nothing is to be changed.
+// OneLine returns a valid JSON text without line ends, and without other blanks between tokens if that makes it no longer than
+// longest. It returns the text itself if nothing changes.
 func OneLine(text []byte, longest int) []byte {
 	if len(text) <= longest && bytes.IndexByte(text, '\n') < 0 {
 		return text
@@ -181,12 +180,12 @@ func OneLine(text []byte, longest int) []byte {
 	return compact.Bytes()
 }
 
-// IsText says whether a text is UTF-8 and has from 1 to this many bytes.
+// IsText reports whether a text is UTF-8 and has 1 to longest bytes.
 func IsText(text string, longest int) bool {
 	return len(text) > 0 && len(text) <= longest && utf8.ValidString(text)
 }
 
-// Brief is a text cut to this many bytes, for people to read.
+// Brief returns a text cut to longest bytes, for people.
 func Brief(text []byte, longest int) string {
 	if len(text) <= longest {
 		return string(text)

@@ -9,20 +9,20 @@ import (
 	"strings"
 )
 
-// A ValueFault says why an input has no value that the engine takes.
+// A ValueFault says why the engine refuses an input's value.
 type ValueFault struct {
-	// Pointer is the JSON Pointer (RFC 6901) of the place, within the input.
+	// Pointer is the JSON Pointer (RFC 6901) of the place within the input.
 	Pointer string
 	Reason  string
 }
 
-// Value says why the engine would refuse the value of an input, or gives nil. The span is that of the input within a text
-// that was scanned. Of several members with one key the last counts alone.
+// Value says why the engine would refuse an input's value, or returns nil. span is that of the input in a scanned text. Of a
+// repeated key only the last member counts.
 func Value(text []byte, span Span) *ValueFault {
 	if span.Bad < 0 && span.Nodes <= MaxNodes && span.Depth <= MaxDepth {
 		return nil
 	}
-	// Something breaks a limit, unless it stands under a key that comes again.
+	// Something breaks a limit, unless its key comes again.
 	value, err := Tree(text[span.Start:span.End])
 	if err != nil {
 		return &ValueFault{Reason: err.Error()}
@@ -44,7 +44,7 @@ func tooLarge(value any) *ValueFault {
 	return nil
 }
 
-// Size says why a value is too large for the engine, or gives nil. Its numbers may be any.
+// Size says why a value is too large for the engine, or returns nil. It takes any numbers.
 func Size(text []byte, span Span) *ValueFault {
 	if span.Nodes <= MaxNodes && span.Depth <= MaxDepth {
 		return nil
@@ -56,7 +56,7 @@ func Size(text []byte, span Span) *ValueFault {
 	return tooLarge(value)
 }
 
-// Tree reads a lawful JSON text into Go's values, numbers as json.Number. Of several members with one key the last stays.
+// Tree reads a valid JSON text into Go values, with numbers as json.Number. Of a repeated key the last member stays.
 func Tree(text []byte) (any, error) {
 	decoder := json.NewDecoder(bytes.NewReader(text))
 	decoder.UseNumber()
@@ -67,13 +67,13 @@ func Tree(text []byte) (any, error) {
 	return value, nil
 }
 
-// IsWhole says whether a number is one of the engine's: whole, without point and exponent, in range.
+// IsWhole reports whether a number is valid in the engine: whole, without point and exponent, in range.
 func IsWhole(number string) bool {
 	n, err := strconv.ParseInt(number, 10, 64)
 	return err == nil && n >= -MaxNumber && number != "-0"
 }
 
-// badNumber finds the first number that is none of the engine's, in the order in which the engine reads.
+// badNumber finds the first number that the engine refuses, in the engine's order.
 func badNumber(value any, pointer string) *ValueFault {
 	switch value := value.(type) {
 	case json.Number:
@@ -97,7 +97,7 @@ func badNumber(value any, pointer string) *ValueFault {
 	return nil
 }
 
-// Keys are those of an object in the order of their bytes.
+// Keys returns an object's keys, sorted by bytes.
 func Keys(object map[string]any) []string {
 	keys := make([]string, 0, len(object))
 	for key := range object {
@@ -107,18 +107,18 @@ func Keys(object map[string]any) []string {
 	return keys
 }
 
-// What turns keys into parts of a JSON Pointer, and back.
+// Escapes of keys in JSON Pointers, and back.
 var (
 	toToken   = strings.NewReplacer("~", "~0", "/", "~1")
 	fromToken = strings.NewReplacer("~1", "/", "~0", "~")
 )
 
-// Token is a key as a part of a JSON Pointer.
+// Token returns a key as a token of a JSON Pointer.
 func Token(key string) string {
 	return toToken.Replace(key)
 }
 
-// Untoken is the key that a part of a JSON Pointer stands for.
+// Untoken returns the key of a token of a JSON Pointer.
 func Untoken(token string) string {
 	return fromToken.Replace(token)
 }
@@ -145,7 +145,7 @@ func measure(value any) (nodes, depth int) {
 	return nodes, depth
 }
 
-// Compact writes a value as the engine does: without blanks, keys in the order of their bytes.
+// Compact writes a value as the engine does: without blanks, keys sorted by bytes.
 func Compact(to []byte, value any) []byte {
 	switch value := value.(type) {
 	case nil:

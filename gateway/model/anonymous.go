@@ -2,8 +2,8 @@ package model
 
 import "fmt"
 
-// Anonymous is a model whose entries that the file doesn't have are numbered by their places: two translations of one file are the
-// same then.
+// Anonymous returns a model whose entries that are not in the file are numbered by place, so that two translations of one file
+// are equal.
 func Anonymous(m *Model, s Spelling) *Model {
 	made := *m
 	made.Decisions = append([]Decision(nil), m.Decisions...)
@@ -14,9 +14,9 @@ func Anonymous(m *Model, s Spelling) *Model {
 	return &made
 }
 
-// An anonymizer renames the entries of one decision.
+// An anonymizer renames the entries of a decision.
 type anonymizer struct {
-	// made has the new words, file knows the words of the file.
+	// made has the new words, file the words of the file.
 	made, file Spelling
 }
 

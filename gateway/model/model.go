@@ -1,10 +1,10 @@
-// Package model is the model that the engine reads, as Go values, with its JSON: inputs, decisions with their logic, and
-// services. It holds whatever the form of a model allows; whether a model is lawful is the engine's to say (desk check).
+// Package model is the engine's model as Go values, with its JSON: inputs, decisions with their logic, and services. It can
+// hold anything of the right form; whether a model is valid is up to the engine (desk check).
 package model
 
 // Model is a decision model. Its limits (1,000 decisions, a line of 1,048,576 bytes) are the engine's.
 type Model struct {
-	// Inputs are the names of the values that a request brings.
+	// Inputs are the names of the values in a request.
 	Inputs []string
 	// Decisions are the decisions, in any order.
 	Decisions []Decision
@@ -15,17 +15,17 @@ type Model struct {
 // Decision is a named piece of logic over the values of what it needs.
 type Decision struct {
 	Name string
-	// Needs are the names of the inputs and decisions that the logic sees, each once.
+	// Needs are the names of the inputs and decisions that the logic uses, each once.
 	Needs []string
 	Expr  Expression
 }
 
-// Service answers the values of its outputs, for values of its input decisions and its input data.
+// Service returns the values of its outputs, given its input decisions and input data.
 type Service struct {
 	Name string `json:"name"`
-	// Outputs are decisions, at least one, in the order of the answer.
+	// Outputs are decisions, at least one, in answer order.
 	Outputs []string `json:"outputs"`
-	// Encapsulated are decisions that are evaluated and not answered.
+	// Encapsulated are decisions that are evaluated and not returned.
 	Encapsulated []string `json:"encapsulated"`
 	// InputDecisions are decisions whose values the request brings.
 	InputDecisions []string `json:"inputDecisions"`
@@ -38,16 +38,16 @@ type Expression interface {
 	boxed()
 }
 
-// Literal is an expression in the language of texts.
+// Literal is an expression as text.
 type Literal string
 
 // List is a boxed list: its value is the list of its members' values.
 type List []Expression
 
-// Context is a boxed context: its entries, each of which sees those before it, and a result over them.
+// Context is a boxed context: entries, each of which sees those before it, and a result.
 type Context struct {
 	Entries []Entry
-	// Result is what the context gives; where it is nil that is the context of all entries.
+	// Result is the value of the context; nil means the context of all entries.
 	Result Expression
 }
 
@@ -72,9 +72,9 @@ type Table struct {
 // Output is an output column.
 type Output struct {
 	Name string
-	// Values are literals, by which the policies P and O order; none where it is empty.
+	// Values are literals that set the order for policies P and O; may be empty.
 	Values []string
-	// Default is the expression of the value where no rule hits, nil where there is none.
+	// Default is the expression used if no rule hits, or nil.
 	Default *string
 }
 

@@ -5,7 +5,7 @@ import (
 	"testing"
 )
 
-// everyForm has each form of a model once, as the format of models writes them.
+// everyForm has each form of a model once, in the documented spelling.
 const everyForm = `{"inputs":["a"],"decisions":[` +
 	`{"name":"d","needs":["a"],"expr":"a < 1"},` +
 	`{"name":"l","needs":[],"expr":{"list":["1",{"list":[]}]}},` +
@@ -40,7 +40,7 @@ func TestListsThatAreNilAreWrittenAsEmpty(t *testing.T) {
 	}
 }
 
-func TestWhatHasNotTheFormIsToldWithItsPlace(t *testing.T) {
+func TestMisshapesAreReportedWithTheirPlaces(t *testing.T) {
 	for text, pointer := range map[string]string{
 		`[]`:                           "",
 		`{"inputs":[],"decisions":[]}`: "",

@@ -9,11 +9,11 @@ import (
 	"strconv"
 )
 
-// A ShapeError says where a JSON value has not the form of a model.
+// A ShapeError says where a JSON value doesn't have the form of a model.
 type ShapeError struct {
 	// Pointer is the place, as a JSON Pointer (RFC 6901) into the model.
 	Pointer string
-	// Due is what has to stand there.
+	// Due is what must be there.
 	Due string
 }
 
@@ -21,11 +21,11 @@ func (e *ShapeError) Error() string {
 	return fmt.Sprintf("%q: %s", e.Pointer, e.Due)
 }
 
-// deepest is how many lists and objects may stand inside each other in a model.
+// deepest limits the nesting of lists and objects in a model.
 const deepest = 127
 
-// Parse reads a model from JSON. The error is a *ShapeError where the JSON is none of the form of a model: a key that is
-// missing or not known, a value of another kind, or a nesting over 127.
+// Parse reads a model from JSON. It returns a *ShapeError if the JSON doesn't have the form of a model: a missing or unknown
+// key, a value of the wrong kind, or nesting over 127.
 func Parse(data []byte) (*Model, error) {
 	decoder := json.NewDecoder(bytes.NewReader(data))
 	decoder.UseNumber()
@@ -39,7 +39,7 @@ func Parse(data []byte) (*Model, error) {
 	return Of(value)
 }
 
-// Of is the model that a JSON value stands for, as encoding/json decodes it.
+// Of returns the model in a JSON value, as encoding/json decodes it.
 func Of(value any) (*Model, error) {
 	r := reader{}
 	m := r.model(value)
@@ -49,7 +49,7 @@ func Of(value any) (*Model, error) {
 	return m, nil
 }
 
-// A reader keeps the first place that has not the form that is due.
+// A reader keeps the first place that doesn't have the due form.
 type reader struct {
 	fault *ShapeError
 }
@@ -60,7 +60,7 @@ func (r *reader) fail(pointer, due string) {
 	}
 }
 
-// object gives the members of an object with these keys, of which the optional ones may be missing, and no other.
+// object returns the members of an object with these keys, some optional, and no others.
 func (r *reader) object(pointer string, value any, keys []string, optional ...string) map[string]any {
 	members, ok := value.(map[string]any)
 	if !ok {

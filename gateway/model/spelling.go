@@ -6,18 +6,19 @@ import (
 	"strings"
 )
 
-// A Spelling is what a file calls the words of its model. A word without a line is spelled as it is.
+// A Spelling maps a model's words to a file's names. Words without a name are spelled as they are.
 type Spelling struct {
 	Names, Locals map[string]string
-	// Texts are those of the file, by the JSON Pointers of the places where the model has others.
+	// Texts are the file's texts, by JSON Pointer, where the model has others.
 	Texts map[string]string
-	// Places are the pointers of the places that the file has an id, a name or a text for.
+	// Places has the pointers of the places for which the file has an id, a name or a text.
 	Places map[string]bool
-	// tables are the pointers of the tables with such texts, and columns those of their input columns: the table's, /when/ and a number.
+	// tables has the pointers of tables with such texts, columns those of their input columns: the table's, /when/ and a
+	// number.
 	tables, columns map[string]bool
 }
 
-// ReadSpelling is the spelling of a model with these names and places, as an import writes them; places may be nil.
+// ReadSpelling returns the spelling with these names and places, as an import writes them; places may be nil.
 func ReadSpelling(names, locals map[string]string, places json.RawMessage) (Spelling, error) {
 	s := Spelling{Names: names, Locals: locals, Texts: map[string]string{}, Places: map[string]bool{}, tables: map[string]bool{},
 		columns: map[string]bool{}}
@@ -38,7 +39,7 @@ func ReadSpelling(names, locals map[string]string, places json.RawMessage) (Spel
 	return s, nil
 }
 
-// note notes the table and the column of a cell with a text.
+// note notes the table and column of a cell with a text.
 func (s *Spelling) note(pointer string) {
 	if table, cell, is := strings.Cut(pointer, "/rules/"); is {
 		s.tables[table] = true
@@ -48,7 +49,7 @@ func (s *Spelling) note(pointer string) {
 	}
 }
 
-// At is the expression at a place as the file has it.
+// At returns the expression at a place as in the file.
 func (s Spelling) At(pointer, expression string) string {
 	if text, is := s.Texts[pointer]; is {
 		return text
@@ -56,14 +57,14 @@ func (s Spelling) At(pointer, expression string) string {
 	return s.Text(expression)
 }
 
-// IsOfFile says whether the file has a word: what only the translation has is not.
+// IsOfFile reports whether the file has a word: words made by the translation are not in it.
 func (s Spelling) IsOfFile(word string) bool {
 	_, named := s.Names[word]
 	_, local := s.Locals[word]
 	return named || local || len(s.Names) == 0
 }
 
-// Name is the name of a word.
+// Name returns the name of a word.
 func (s Spelling) Name(word string) string {
 	if name, is := s.Names[word]; is {
 		return name
@@ -74,7 +75,7 @@ func (s Spelling) Name(word string) string {
 	return word
 }
 
-// Text is an expression with the names of the file in place of words.
+// Text returns an expression with the file's names instead of words.
 func (s Spelling) Text(expression string) string {
 	if len(s.Names) == 0 {
 		return expression
@@ -99,7 +100,7 @@ func (s Spelling) Text(expression string) string {
 	return made.String()
 }
 
-// afterQuotes is the place after a text in quotes that begins at a place.
+// afterQuotes returns the end of a quoted text that begins at a place.
 func afterQuotes(expression string, at int) int {
 	for at++; at < len(expression) && expression[at] != '"'; at++ {
 		if expression[at] == '\\' {

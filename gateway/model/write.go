@@ -6,7 +6,7 @@ import (
 	"fmt"
 )
 
-// The forms of a model in JSON, with the keys in the order in which they are written.
+// The JSON forms of a model, with keys in writing order.
 type (
 	modelForm struct {
 		Inputs    []string       `json:"inputs"`
@@ -49,7 +49,7 @@ type (
 	}
 )
 
-// JSON is the model as one line of compact JSON without a newline. Signs such as < stand as they are.
+// JSON returns the model as one line of compact JSON without a newline. Signs such as < are not escaped.
 func (m Model) JSON() ([]byte, error) {
 	var line bytes.Buffer
 	encoder := json.NewEncoder(&line)
@@ -60,7 +60,7 @@ func (m Model) JSON() ([]byte, error) {
 	return bytes.TrimSuffix(line.Bytes(), []byte("\n")), nil
 }
 
-// MarshalJSON is JSON, so that a model may stand inside other values.
+// MarshalJSON returns JSON, so that a model may be inside other values.
 func (m Model) MarshalJSON() ([]byte, error) {
 	return m.JSON()
 }
@@ -118,7 +118,7 @@ func (t *Table) form() tableForm {
 	return form
 }
 
-// texts is the same list, and never null in JSON.
+// texts returns the same list, which is never null in JSON.
 func texts(list []string) []string {
 	if list == nil {
 		return []string{}

@@ -2,21 +2,21 @@ package model
 
 import "fmt"
 
-// A Written is a model as its file has it: names and texts are those of the file. Where it counts in units, what only the translation
+// A Written is a model as in its file: names and texts are the file's. If the file counts in units, what only the translation
 // has is left out.
 type Written struct {
 	Model *Model
-	// Origins are the tables of the model from which those of Model were written.
+	// Origins maps the tables of Model to the model's tables.
 	Origins map[*Table]Origin
 }
 
-// An Origin is a table of a model, and its JSON Pointer there.
+// An Origin is a table of a model and its JSON Pointer.
 type Origin struct {
 	Table   *Table
 	Pointer string
 }
 
-// Written is a model as the file has it.
+// Written returns a model as in its file.
 func (s Spelling) Written(m *Model) *Written {
 	w := &writer{Spelling: s, made: &Written{Model: &Model{Inputs: s.names(m.Inputs)}, Origins: map[*Table]Origin{}}}
 	for at, it := range m.Decisions {
@@ -38,7 +38,7 @@ func (s Spelling) names(words []string) []string {
 	return names
 }
 
-// A writer writes expressions as the file has them.
+// A writer writes expressions as in the file.
 type writer struct {
 	Spelling
 	made *Written
@@ -65,7 +65,7 @@ func (w *writer) expression(e Expression, pointer string) Expression {
 	return e
 }
 
-// context writes the entries that the file has.
+// context writes the entries that are in the file.
 func (w *writer) context(c Context, pointer string) Expression {
 	if inner, at, is := w.Inner(c, pointer); is {
 		return w.expression(inner, at)
@@ -84,8 +84,8 @@ func (w *writer) context(c Context, pointer string) Expression {
 
 func entryAt(pointer string, at int) string { return fmt.Sprintf("%s/context/%d/expr", pointer, at) }
 
-// Inner is what the file has in place of a context whose entries only the translation has: its result, or the last entry that came
-// from the file, which got a name since its value is tested or counted again; with the pointer of it.
+// Inner returns what the file has instead of a context whose entries only the translation has, and its pointer: the result, or
+// the last entry from the file, which got a name because its value is tested or converted.
 func (s Spelling) Inner(c Context, pointer string) (inner Expression, at string, is bool) {
 	if c.Result == nil || len(c.Entries) == 0 || len(s.Texts) == 0 {
 		return nil, "", false
@@ -104,8 +104,8 @@ func (s Spelling) Inner(c Context, pointer string) (inner Expression, at string,
 	return inner, at, true
 }
 
-// isFromFile says whether the file has an expression that the translation gave a name: it has its text there, or is a table with
-// texts of the file.
+// isFromFile reports whether the file has an expression that the translation gave a name: it has its text there, or is a table
+// with the file's texts.
 func (s Spelling) isFromFile(e Expression, pointer string) bool {
 	if _, is := s.Texts[pointer]; is {
 		return true
@@ -159,7 +159,7 @@ func (w *writer) cells(texts []string, pointer string, rule int, kind string) []
 	return made
 }
 
-// InputsOf is how many input columns of a table the file has: the last may be one of conditions that the translation added.
+// InputsOf returns how many input columns a table has in the file: the last may hold conditions that the translation added.
 func (s Spelling) InputsOf(t *Table, pointer string) int {
 	last := len(t.Inputs) - 1
 	if last < 0 || len(s.Texts) == 0 || t.Inputs[last] != "true" || s.Places[fmt.Sprintf("%s/inputs/%d", pointer, last)] ||

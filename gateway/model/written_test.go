@@ -6,7 +6,7 @@ import (
 	"testing"
 )
 
-// TestWritten writes models as their files have them: what is due was written by hand.
+// TestWritten writes models as in their files: the expected ones were made by hand.
 func TestWritten(t *testing.T) {
 	table := func(input, when, then string) string {
 		return `{"table":{"hit":"U","inputs":[` + input + `],"outputs":[{"name":"o"}],"rules":[{"when":[` + when + `],"then":["` + then + `"]}]}}`

@@ -5,7 +5,7 @@ import (
 	"testing"
 )
 
-// TestDates has the schemas of dates, times and durations, and an example of each.
+// TestDates has the schemas of dates, times and durations, with an example of each.
 func TestDates(t *testing.T) {
 	for _, c := range []struct{ schema, due, example string }{
 		{`{"type":["string","null"],"format":"date","clock":"UTC"}`, `{"format":"date","nullable":true,"type":"string"}`, "2026-01-31"},

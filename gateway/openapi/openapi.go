@@ -1,4 +1,4 @@
-// Package openapi writes the description of a service as OpenAPI 3.0.3 has it.
+// Package openapi describes services in OpenAPI 3.0.3.
 package openapi
 
 import (
@@ -7,22 +7,22 @@ import (
 	"net/url"
 )
 
-// A Service is a decision service, and what it takes.
+// A Service is a decision service and its inputs.
 type Service struct {
 	Name   string
 	Inputs []Input
-	// Result is the JSON Schema of its results, and nil where nothing is said of them.
+	// Result is the JSON Schema of its results, or nil.
 	Result json.RawMessage
-	// Strict says that other inputs are refused.
+	// Strict means that unknown inputs are refused.
 	Strict bool
 }
 
-// An Input is one parameter of a service.
+// An Input is a parameter of a service.
 type Input struct {
 	Name string
-	// Schema is the JSON Schema of its type, and nil where nothing is said of it.
+	// Schema is the JSON Schema of its type, or nil.
 	Schema json.RawMessage
-	// Required says that a request without it is refused, NotNull that one with null is, whatever the schema says.
+	// Required means that requests without it are refused, NotNull that requests with null are, whatever the schema says.
 	Required, NotNull bool
 }
 
@@ -31,7 +31,7 @@ type object map[string]any
 const digits = "Whole numbers from -9223372036854775807 to 9223372036854775807. Beyond 9007199254740991 " +
 	"(2^53 - 1) they lose digits where numbers are floats, as in browsers and in most JavaScript."
 
-// Page is the description of these services under a model with this SHA-256, of an engine of this version. Guarded says
+// Page returns the description of these services under a model with this SHA-256, from an engine of this version. guarded means
 // that callers need tokens.
 func Page(sum, version string, guarded bool, services []Service) ([]byte, error) {
 	parts := components(guarded)
@@ -61,7 +61,7 @@ func Page(sum, version string, guarded bool, services []Service) ([]byte, error)
 	return append(text, '\n'), nil
 }
 
-// call describes the calls of a service, and adds its named schemas.
+// call describes a service's calls, and adds its named schemas.
 func call(service Service, name string, schemas object) object {
 	properties, example, required := object{}, object{}, []string{}
 	for _, input := range service.Inputs {
@@ -101,7 +101,7 @@ func call(service Service, name string, schemas object) object {
 	}
 }
 
-// How a result or a problem came about, where that was asked for: one of these.
+// The explanation of a result or a problem, if requested: one of these.
 var (
 	decisions = object{"type": "array", "items": object{"type": "object"}, "description": "How it came about"}
 	explained = object{"type": "string", "enum": []string{"long"},
@@ -119,7 +119,7 @@ func callHeaders() []object {
 	}
 }
 
-// responses are those to a call whose single answers are of a schema.
+// responses returns the responses to a call whose single answers have this schema.
 func responses(result object) object {
 	problem := object{"$ref": "#/components/schemas/Problem"}
 	all := object{"200": object{

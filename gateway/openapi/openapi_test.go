@@ -40,7 +40,7 @@ func TestPageNamesEachService(t *testing.T) {
 	}
 }
 
-// An input that may not be null has a schema without null.
+// An input that can't be null has a schema without null.
 func TestInputsThatMayNotBeNull(t *testing.T) {
 	text, err := Page("0123456789abcdef", "0.9.0", false, []Service{{Name: "s", Strict: true, Inputs: []Input{
 		{Name: "a", Required: true, NotNull: true, Schema: json.RawMessage(`{"type":["string","null"],"enum":["x",null]}`)}}}})

@@ -6,13 +6,13 @@ import (
 	"strings"
 )
 
-// fixed are the names that stand for operations and schemas of every document.
+// fixed are the names of operations and schemas in every document.
 var fixed = []string{"Problem", "getModel", "putModel", "getServices", "getHealth", "getReady", "getMetrics", "getOpenAPI", "getProblems", "getProblem",
 	"checkModel", "getTables", "countRules", "getPage", "tryModel", "getReleases"}
 
-// operations are the names of the services' operations, each unlike the others and those of every document. A name depends
-// on the service's own name alone: where that has other characters than letters, digits and underscores, these become
-// underscores, and some digits of its SHA-256 come behind.
+// operations returns the names of the services' operations. They differ from each other and from the fixed ones. A name depends
+// only on the service's name: characters other than letters, digits and underscores become underscores, followed by some digits
+// of the name's SHA-256.
 func operations(services []Service) []string {
 	names := make([]string, len(services))
 	for at, service := range services {
@@ -21,7 +21,7 @@ func operations(services []Service) []string {
 	return names
 }
 
-// nameDigits is how many digits of a sum tell names apart.
+// nameDigits is how many digits of a sum distinguish names.
 const nameDigits = 8
 
 func operation(name string) string {

@@ -1,6 +1,6 @@
 package openapi
 
-// fixedPaths are the paths that do not depend on the model.
+// fixedPaths returns the paths that don't depend on the model.
 func fixedPaths() object {
 	return object{
 		"/v1/model":        modelPath(),
@@ -20,7 +20,7 @@ func fixedPaths() object {
 	}
 }
 
-// words are the parameters of a query that are true or false.
+// flag returns a query parameter that is true or false.
 func flag(name, said string) object {
 	return object{"name": name, "in": "query", "schema": object{"type": "boolean"}, "description": said}
 }
@@ -46,7 +46,7 @@ func found(said string) object {
 	return object{"description": said, "content": content("application/json", anyObject())}
 }
 
-// asked is a path that gives an object.
+// asked returns a path that returns an object.
 func asked(id, said string, parameters []object) object {
 	made := object{"operationId": id, "summary": said, "responses": object{"200": found(said), "default": refusal()}}
 	if len(parameters) > 0 {
@@ -55,14 +55,14 @@ func asked(id, said string, parameters []object) object {
 	return made
 }
 
-// sent is a path that takes a body, and gives an object.
+// sent returns a path that takes a body and returns an object.
 func sent(id, said string, body object, parameters ...object) object {
 	made := asked(id, said, parameters)
 	made["requestBody"] = body
 	return made
 }
 
-// open is a path that needs no token.
+// open returns a path that needs no token.
 func open(id, said, kind string) object {
 	schema := object{"type": "string"}
 	if kind == "application/json" {
@@ -104,7 +104,7 @@ func covering() object {
 		object{"name": "service", "in": "query", "schema": object{"type": "string"}, "description": "Of lines that are inputs alone"})
 }
 
-// trying describes how recorded requests are asked of two models.
+// trying describes a trial of recorded requests with two models.
 func trying() object {
 	made := asked("tryModel", "Asks two models for the recorded requests, and lists those that get another answer", []object{
 		{"name": "model", "in": "query", "required": true, "schema": object{"type": "string"},
@@ -125,7 +125,7 @@ func trying() object {
 	return made
 }
 
-// explaining describes how a service is asked how its answers come about.
+// explaining describes a request for a service's explanations.
 func explaining(service Service, name string) object {
 	one := object{"$ref": "#/components/schemas/" + name + "Inputs"}
 	return object{

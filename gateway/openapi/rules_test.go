@@ -9,7 +9,7 @@ import (
 	"testing"
 )
 
-// many are services whose names are alike, or those of other operations.
+// many are services with similar names, or names of other operations.
 var many = []Service{
 	{Name: "shipping", Strict: true, Inputs: []Input{
 		{Name: "weight", Schema: json.RawMessage(`{"type":"integer","minimum":0}`), Required: true},
@@ -19,7 +19,7 @@ var many = []Service{
 	{Name: "7"}, {Name: "shipping_explained"}, {Name: "a/b"}, {Name: "{x}"},
 }
 
-// described is the document of some services.
+// described returns the document of some services.
 func described(t *testing.T, services []Service) map[string]any {
 	t.Helper()
 	text, err := Page("0123456789abcdef", "0.9.0", true, services)
@@ -33,13 +33,13 @@ func described(t *testing.T, services []Service) map[string]any {
 	return page
 }
 
-// schemaKeys are the keywords of OpenAPI 3.0's schemas that documents use.
+// schemaKeys are the OpenAPI 3.0 schema keywords that documents use.
 var schemaKeys = map[string]string{"type": "string", "format": "string", "nullable": "bool", "enum": "[]interface {}", "minimum": "float64",
 	"maximum": "float64", "exclusiveMinimum": "bool", "exclusiveMaximum": "bool", "multipleOf": "float64", "items": "map[string]interface {}",
 	"properties": "map[string]interface {}", "required": "[]interface {}", "description": "string", "minLength": "float64",
 	"maxLength": "float64", "maxItems": "float64", "oneOf": "[]interface {}", "anyOf": "[]interface {}", "additionalProperties": "bool"}
 
-// rules says where a document breaks the rules of OpenAPI 3.0.
+// A rules collects violations of OpenAPI 3.0's rules.
 type rules struct {
 	page   map[string]any
 	faults []string
@@ -72,7 +72,7 @@ func (r *rules) schema(at string, value any) {
 	r.parts(at, schema)
 }
 
-// parts holds the schemas within a schema to the rules.
+// parts checks the schemas within a schema.
 func (r *rules) parts(at string, schema map[string]any) {
 	properties, _ := schema["properties"].(map[string]any)
 	for name, part := range properties {
@@ -149,8 +149,8 @@ func (r *rules) operation(path, method string, it map[string]any) {
 
 var component = regexp.MustCompile(`^[A-Za-z0-9._-]+$`)
 
-// The document keeps the rules of OpenAPI 3.0: known keywords of the right kinds, references to what is there, ids that are
-// unique, parameters for each part of a path.
+// The document follows OpenAPI 3.0: known keywords of the right kinds, resolvable references, unique ids, and parameters for
+// each part of a path.
 func TestPageKeepsTheRules(t *testing.T) {
 	r := &rules{page: described(t, many), ids: map[string]bool{}}
 	for path, item := range r.page["paths"].(map[string]any) {
@@ -182,7 +182,7 @@ func operationsOf(page map[string]any) map[string]any {
 	return ids
 }
 
-// The names of operations stay when services are added before and behind.
+// The names of operations stay when services are added before and after.
 func TestOperationsStay(t *testing.T) {
 	all := operationsOf(described(t, many))
 	for at, service := range many {
@@ -197,7 +197,7 @@ func TestOperationsStay(t *testing.T) {
 	}
 }
 
-// What a service takes and gives has named schemas that say all that is known.
+// A service's inputs and results have named schemas with all that is known.
 func TestNamedSchemas(t *testing.T) {
 	text, _ := json.Marshal(described(t, many)["components"].(map[string]any)["schemas"])
 	for _, due := range []string{

@@ -6,8 +6,8 @@ import (
 	"strings"
 )
 
-// Schema is a JSON Schema as OpenAPI 3.0 writes it: "nullable" in place of the type null. Where nothing is said of an input
-// it takes any value.
+// Schema returns a JSON Schema in OpenAPI 3.0's form: "nullable" instead of the type null. An input without a type takes any
+// value.
 func Schema(raw json.RawMessage) map[string]any {
 	var schema map[string]any
 	if json.Unmarshal(raw, &schema) != nil || len(schema) == 0 {
@@ -52,19 +52,19 @@ func translate(schema map[string]any) {
 	}
 }
 
-// unitNames are how the units of durations are called, with an example.
+// unitNames are descriptions and examples of the units of durations.
 var unitNames = map[any][2]string{"second": {"A days and time duration", "P1DT12H"}, "month": {"A years and months duration", "P1Y6M"}}
 
-// localTimes are how times without an offset are written.
+// localTimes are descriptions of times without an offset.
 var localTimes = map[any]string{"time": "A time without an offset, as 12:30:00",
 	"date-time": "A date and time without an offset, as 2026-01-31T12:30:00"}
 
-// translateMoment says in words what OpenAPI has no keywords for: of which kind a duration is, and the bounds of dates and durations.
+// translateMoment words what OpenAPI has no keywords for: the kind of a duration, and the bounds of dates and durations.
 func translateMoment(schema map[string]any) {
 	var said []string
 	if hasOffset, is := schema["offset"].(bool); is {
 		if !hasOffset {
-			// Formats of RFC 3339 have an offset.
+			// RFC 3339's formats have an offset.
 			said = append(said, localTimes[schema["format"]])
 			delete(schema, "format")
 		}
@@ -92,7 +92,7 @@ func translateMoment(schema map[string]any) {
 	}
 }
 
-// partsOf are the schemas within a schema.
+// partsOf returns the schemas within a schema.
 func partsOf(schema map[string]any) (parts []map[string]any) {
 	add := func(part any) {
 		if part, is := part.(map[string]any); is {
@@ -115,7 +115,7 @@ func partsOf(schema map[string]any) (parts []map[string]any) {
 	return parts
 }
 
-// Example is a value that a schema takes, as far as its first words say.
+// Example returns a value that a schema takes, as far as its main keywords say.
 func Example(schema map[string]any) any {
 	if values, is := schema["enum"].([]any); is && len(values) > 0 {
 		return values[0]
@@ -151,7 +151,7 @@ func Example(schema map[string]any) any {
 	return nil
 }
 
-// withoutNull takes null from the values of a schema.
+// withoutNull removes null from a schema's values.
 func withoutNull(schema map[string]any) {
 	delete(schema, "nullable")
 	values, is := schema["enum"].([]any)
@@ -167,7 +167,7 @@ func withoutNull(schema map[string]any) {
 	schema["enum"] = kept
 }
 
-// exampleMoment is an example of a date, a time or a duration; empty of others.
+// exampleMoment returns an example of a date, time or duration, or "".
 func exampleMoment(schema map[string]any) string {
 	said, _ := schema["description"].(string)
 	for _, text := range localTimes {

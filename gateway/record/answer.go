@@ -17,21 +17,21 @@ import (
 )
 
 const (
-	// mostText is how many bytes of an answer are kept, mostWhere how many of the rules by which answers differ.
+	// mostText limits the kept bytes of an answer, mostWhere those of the rules by which answers differ.
 	mostText  = 4 << 10
 	mostWhere = 1000
-	// mostRules is how many rules of a table are named.
+	// mostRules limits the named rules of a table.
 	mostRules = 20
 	// mostGivenUp is for how many cases an engine is given up before the trial is.
 	mostGivenUp = 100
-	// DefaultPatience is how long an engine is waited for at one case, the reading of the model included.
+	// DefaultPatience is how long an engine may take for one case, including reading the model.
 	DefaultPatience = 22 * time.Second
 )
 
-// An answer is what a case comes to under one model, as a trial keeps it: two of the same text are the same.
+// An answer is the outcome of a case under one model, as a trial keeps it: equal texts mean equal answers.
 type answer struct {
 	text string
-	// rules are those that decided; where they are many, tables has them in words, by their tables.
+	// rules are those that decided; if there are many, tables has them in words, by table.
 	rules  json.RawMessage
 	tables map[string]string
 }
@@ -43,7 +43,7 @@ func answerOf(it *Decision) answer {
 	return answer{text: whole(it.String()), rules: it.Rules}
 }
 
-// byTable has the rules that decided in words, by their tables.
+// byTable returns the deciding rules in words, by table.
 func (a *answer) byTable() map[string]string {
 	if a.tables != nil {
 		return a.tables
@@ -51,7 +51,7 @@ func (a *answer) byTable() map[string]string {
 	return tables(a.rules)
 }
 
-// whole is a text that is not too long, or else its beginning with what tells it from all others.
+// whole returns a text, or if it is too long its beginning with what distinguishes it.
 func whole(text string) string {
 	if len(text) <= mostText {
 		return text
@@ -59,7 +59,7 @@ func whole(text string) string {
 	return fmt.Sprintf("%s .. (%d bytes, SHA-256 %x)", beginning(text, mostText), len(text), sha256.Sum256([]byte(text)))
 }
 
-// shortened is a text, or its beginning where it is too long.
+// shortened returns a text, or its beginning if it is too long.
 func shortened(text string, most int) string {
 	if len(text) <= most {
 		return text
@@ -67,7 +67,7 @@ func shortened(text string, most int) string {
 	return beginning(text, most) + " .."
 }
 
-// beginning is the first bytes of a text, up to a whole character.
+// beginning returns the first bytes of a text, up to a whole character.
 func beginning(text string, most int) string {
 	for most > 0 && !utf8.RuneStart(text[most]) {
 		most--
@@ -75,7 +75,7 @@ func beginning(text string, most int) string {
 	return text[:most]
 }
 
-// tables are the rules that decided, by their tables.
+// tables returns the deciding rules, by table.
 func tables(text json.RawMessage) map[string]string {
 	var rules []Rule
 	if len(text) > 0 && json.Unmarshal(text, &rules) != nil {
@@ -108,9 +108,9 @@ func tables(text json.RawMessage) map[string]string {
 // errGivenUp ends a trial whose requests take too much.
 var errGivenUp = fmt.Errorf("an engine was given up %d times, since a request took too long or too much memory", mostGivenUp)
 
-// tell asks a model how its answers come about, and hands each to take. At the first request that takes too long, or for which
-// the engine dies, it gives what became of it; those after it were not asked.
-func (t *Trial) tell(ctx context.Context, model *engine.Model, jobs []*engine.Job, take func(*engine.Explanation) error) (*engine.Explanation, error) {
+// explain asks a model how its answers come about, and calls take with each. At the first request that takes too long, or for
+// which the engine dies, it returns that outcome; later requests were not asked.
+func (t *Trial) explain(ctx context.Context, model *engine.Model, jobs []*engine.Job, take func(*engine.Explanation) error) (*engine.Explanation, error) {
 	asking, stop := context.WithCancel(ctx)
 	defer stop()
 	patience := t.Patience
@@ -144,13 +144,13 @@ func (t *Trial) tell(ctx context.Context, model *engine.Model, jobs []*engine.Jo
 	return &engine.Explanation{Outcome: engine.Outcome{Kind: became}}, nil
 }
 
-// decisionOf is what a model came to.
-func decisionOf(model *service.Asked, name string, told *engine.Explanation) *Decision {
-	it := &Decision{Refused: model.Refused(told.Outcome)}
+// decisionOf returns the decision of a model.
+func decisionOf(model *service.Asked, name string, explanation *engine.Explanation) *Decision {
+	it := &Decision{Refused: model.Refused(explanation.Outcome)}
 	if it.Refused == nil {
-		it.Result = model.Result(name, told.Outcome.Value)
+		it.Result = model.Result(name, explanation.Outcome.Value)
 	}
-	if decided := engine.DecidedIn(told.Decisions); len(decided) > 0 {
+	if decided := engine.DecidedIn(explanation.Decisions); len(decided) > 0 {
 		it.Rules = model.Rules(decided)
 	}
 	return it

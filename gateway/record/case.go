@@ -9,13 +9,13 @@ import (
 	"gateway/service"
 )
 
-// A Head is what the beginning of a file says of its entries.
+// A Head is what the beginning of a file says about its entries.
 type Head struct {
 	Release Release         `json:"release"`
 	Origin  string          `json:"origin"`
 	Program service.Program `json:"program"`
 	Engine  service.Program `json:"engine"`
-	// Source is the model with names and types; nil where it can't be read.
+	// Source is the model with names and types; nil if it can't be read.
 	Source *service.Source `json:"-"`
 }
 
@@ -32,7 +32,7 @@ type Problem struct {
 	Pointer string `json:"pointer,omitempty"`
 }
 
-// A Case is one answer.
+// A Case is one recorded answer.
 type Case struct {
 	Entry   uint64 `json:"entry,omitempty"`
 	ID      string `json:"id"`
@@ -41,7 +41,7 @@ type Case struct {
 	Token   string `json:"token,omitempty"`
 	Client  string `json:"client,omitempty"`
 	Service string `json:"service"`
-	// Release, Program and Engine are sums; Name and Version are those of the release.
+	// Release, Program and Engine are sums; Name and Version are the release's.
 	Release  string          `json:"release,omitempty"`
 	Name     string          `json:"name,omitempty"`
 	Version  string          `json:"version,omitempty"`
@@ -54,18 +54,18 @@ type Case struct {
 	// Rules is a list of Rule, or "long".
 	Rules json.RawMessage `json:"rules,omitempty"`
 
-	// Head is that of its file, Path and Line say where it is.
+	// Head is its file's, Path and Line its position.
 	Head *Head  `json:"-"`
 	Path string `json:"-"`
 	Line int    `json:"-"`
-	// asked are the inputs as an engine takes them; nil where the case can't be decided again.
+	// asked has the inputs as an engine takes them; nil if the case can't be decided again.
 	asked json.RawMessage
 	word  string
-	// isOld says that an earlier version wrote it: what its file calls inputs, and how it counts them, is not known.
+	// isOld means that an earlier version wrote it, and input names and units are not known.
 	isOld bool
 }
 
-// A Rule is one that decided.
+// A Rule is a rule that decided.
 type Rule struct {
 	Decision    string   `json:"decision"`
 	At          string   `json:"at,omitempty"`
@@ -75,7 +75,7 @@ type Rule struct {
 	Annotations []string `json:"annotations,omitempty"`
 }
 
-// RuleList are the rules that decided; none where they were not told, or were too many.
+// RuleList returns the deciding rules; none if they are missing, or too many.
 func (c *Case) RuleList() (rules []Rule) {
 	if len(c.Rules) > 0 && json.Unmarshal(c.Rules, &rules) != nil {
 		return nil
@@ -83,7 +83,7 @@ func (c *Case) RuleList() (rules []Rule) {
 	return rules
 }
 
-// CanDecide says whether it can be decided again.
+// CanDecide reports whether the case can be decided again.
 func (c *Case) CanDecide() bool { return c.asked != nil }
 
 // readHead reads the beginning of a file.
@@ -144,7 +144,7 @@ var (
 	closeTail = []byte(`,"close":true}`)
 )
 
-// isHead says whether an entry begins a file.
+// isHead reports whether an entry begins a file.
 func isHead(it *journal.Read) bool {
 	if it.About == nil {
 		return bytes.HasPrefix(it.Asked, modelKey)
@@ -152,7 +152,7 @@ func isHead(it *journal.Read) bool {
 	return bytes.HasPrefix(it.About[bytes.IndexByte(it.About, ','):], beginsKey)
 }
 
-// isMark says whether a line of an earlier version is a mark of time, and gives the time.
+// isMark reports whether a line of an earlier version is a time mark, and returns the time.
 func isMark(it *journal.Read) (string, bool) {
 	if it.About != nil || !bytes.HasSuffix(it.Asked, closeTail) {
 		return "", false
@@ -164,7 +164,7 @@ func isMark(it *journal.Read) (string, bool) {
 	return mark.Client, true
 }
 
-// isAnswer says whether an entry is about an answer.
+// isAnswer reports whether an entry is about an answer.
 func isAnswer(it *journal.Read) bool {
 	if it.About == nil {
 		return true

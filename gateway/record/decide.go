@@ -11,16 +11,16 @@ import (
 	"gateway/service"
 )
 
-// An Asker decides cases again. It keeps the models that it read.
+// An Asker decides cases again. It caches the models.
 type Asker struct {
-	// Path is the engine's file, Memory the limit of its address space in bytes; 0 is none.
+	// Path is the engine's file, Memory the limit of its address space in bytes; 0 means none.
 	Path   string
 	Memory uint64
 	mu     sync.Mutex
 	asked  map[*service.Source]*service.Asked
 }
 
-// A Decision is what a case comes to.
+// A Decision is the outcome of a case.
 type Decision struct {
 	Result json.RawMessage
 	// Refused is why there is no result, or nil.
@@ -28,7 +28,7 @@ type Decision struct {
 	Rules   json.RawMessage
 }
 
-// Same says whether it is what a case came to: the result, or a problem of the same kind.
+// Same reports whether it equals the case's answer: the result, or a problem of the same kind.
 func (d *Decision) Same(c *Case) bool {
 	if d.Refused != nil || c.Problem != nil {
 		return d.Refused != nil && c.Problem != nil && d.Refused.Kind == c.Problem.Type
@@ -36,7 +36,7 @@ func (d *Decision) Same(c *Case) bool {
 	return c.Result == nil || string(d.Result) == string(c.Result)
 }
 
-// String is the result, or the kind of the problem.
+// String returns the result, or the kind of the problem.
 func (d *Decision) String() string {
 	if d.Refused != nil {
 		return "problem " + d.Refused.Kind + ": " + d.Refused.Error()
@@ -44,7 +44,7 @@ func (d *Decision) String() string {
 	return string(d.Result)
 }
 
-// ErrUndecidable says that a case has no inputs that an engine could be asked.
+// ErrUndecidable means that a case has no inputs for an engine.
 var ErrUndecidable = errors.New("it can't be decided again")
 
 // Model reads a model, once.
@@ -65,7 +65,7 @@ func (a *Asker) Model(ctx context.Context, source *service.Source) (*service.Ask
 	return it, nil
 }
 
-// Inputs are the inputs of a case with the names and decimals of its file.
+// Inputs returns a case's inputs with the names and decimals of its file.
 func (a *Asker) Inputs(ctx context.Context, c *Case) (json.RawMessage, error) {
 	if c.asked == nil || c.Head == nil || c.Head.Source == nil {
 		return c.Inputs, nil
@@ -77,7 +77,7 @@ func (a *Asker) Inputs(ctx context.Context, c *Case) (json.RawMessage, error) {
 	return model.Inputs(c.word, c.asked), nil
 }
 
-// request makes the request of a case, whose inputs have the names of its file.
+// request makes the request of a case. inputs have the names of its file.
 func (c *Case) request(model *service.Asked, inputs []byte, job *engine.Job) *service.Refusal {
 	if c.isOld {
 		return model.EngineRequest(c.word, c.asked, job)
@@ -86,7 +86,7 @@ func (c *Case) request(model *service.Asked, inputs []byte, job *engine.Job) *se
 	return refused
 }
 
-// Decide asks a model for a case. Where the model is the one of then, its inputs are those that its engine was asked.
+// Decide asks a model about a case. With the original model, the inputs are those that its engine got.
 func (a *Asker) Decide(ctx context.Context, c *Case, source *service.Source) (*Decision, error) {
 	if c.asked == nil {
 		return nil, ErrUndecidable
@@ -104,9 +104,9 @@ func (a *Asker) Decide(ctx context.Context, c *Case, source *service.Source) (*D
 		return &Decision{Refused: refused}, nil
 	}
 	explainer := &engine.Explainer{Path: a.Path, Memory: a.Memory}
-	told, err := explainer.Explain(ctx, model.Model(), []*engine.Job{job}, func(int) bool { return true })
+	explanations, err := explainer.Explain(ctx, model.Model(), []*engine.Job{job}, func(int) bool { return true })
 	if err != nil {
 		return nil, fmt.Errorf("deciding a case again: %w", err)
 	}
-	return decisionOf(model, c.Service, &told[0]), nil
+	return decisionOf(model, c.Service, &explanations[0]), nil
 }

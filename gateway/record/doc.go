@@ -1,2 +1,2 @@
-// Package record reads the journal of answers for people: the cases of it, which are found, shown, exported, and decided again.
+// Package record reads the journal's cases for people: to find, show, export and decide them again.
 package record

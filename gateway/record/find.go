@@ -11,22 +11,22 @@ import (
 	"gateway/journal"
 )
 
-// A Filter says which cases are wanted; empty parts want any.
+// A Filter selects cases; empty fields select any.
 type Filter struct {
-	// ID is ours or the caller's, of a list with # and a number, or the number of an entry with # alone.
+	// ID is ours or the caller's, that of a list with # and a number, or # and the number of an entry.
 	ID string
-	// Client is what a caller said in X-Client, or the name of its token.
+	// Client is the caller's X-Client, or the name of its token.
 	Client  string
 	Service string
-	// From and To are times as entries have them, or the first characters of some; To is not included.
+	// From and To are times as in entries, or prefixes; To is excluded.
 	From, To string
-	// Rule is a decision, or a decision with a colon and the number or the id of a rule.
+	// Rule is a decision, or a decision with a colon and a rule's number or id.
 	Rule string
 	// Release is the beginning of a release's sum, or its name and version with a blank between.
 	Release string
 }
 
-// Each hands the cases of a journal that are wanted to take, in their order.
+// Each calls take with a journal's selected cases, in order.
 func Each(folder string, filter Filter, take func(*Case) error) error {
 	r, err := journal.NewReader(folder)
 	if err != nil {
@@ -52,16 +52,16 @@ func Each(folder string, filter Filter, take func(*Case) error) error {
 	}
 }
 
-// A walker goes over the entries of a journal.
+// A walker walks a journal's entries.
 type walker struct {
 	filter Filter
 	id     []byte
-	// heads are those of files, marks the last marks of time of files that earlier versions wrote.
+	// heads has the files' heads, marks the last time marks of files from earlier versions.
 	heads map[string]*Head
 	marks map[string]string
 }
 
-// read reads the case of an entry; nil where it has none, or one that is not wanted.
+// read reads an entry's case; nil if it has none, or an unselected one.
 func (w *walker) read(it *journal.Read) (*Case, error) {
 	if isHead(it) {
 		w.heads[it.Path] = readHead(it)
@@ -85,12 +85,12 @@ func (w *walker) read(it *journal.Read) (*Case, error) {
 	return c, nil
 }
 
-// isLikely says whether an entry may be wanted, without reading it.
+// isLikely reports whether an entry may be selected, without parsing it.
 func (w *walker) isLikely(it *journal.Read) bool {
 	return len(w.id) == 0 || bytes.Contains(it.About, w.id) || bytes.Contains(it.Asked, w.id)
 }
 
-// name gives the service the name of the file.
+// name gives the service its name in the file.
 func (c *Case) name() {
 	if c.Head == nil || c.Head.Source == nil {
 		return
@@ -115,7 +115,7 @@ func (f *Filter) wants(c *Case) bool {
 	return false
 }
 
-// isNamed says whether an id is that of the case, or of the list that it was in.
+// isNamed reports whether an id is the case's, or that of the list that it was in.
 func (c *Case) isNamed(id string) bool {
 	if number := strings.TrimPrefix(id, "#"); number != id {
 		return number == strconv.FormatUint(c.Entry, 10)
@@ -128,7 +128,7 @@ func (c *Case) isNamed(id string) bool {
 	return false
 }
 
-// hasRule says whether a rule decided, or some rule of a decision.
+// hasRule reports whether a rule decided, or any rule of a decision.
 func (c *Case) hasRule(wanted string) bool {
 	for _, it := range c.RuleList() {
 		if it.Decision == wanted || it.ID == wanted || fmt.Sprintf("%s:%d", it.Decision, it.Rule) == wanted ||

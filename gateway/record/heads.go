@@ -8,7 +8,7 @@ import (
 	"gateway/model"
 )
 
-// heads hands the head of each file to take, in the order of files.
+// heads calls take with each file's head, in file order.
 func heads(folder string, take func(*Head)) error {
 	paths, err := journal.Files(folder)
 	if err != nil {
@@ -28,13 +28,13 @@ func heads(folder string, take func(*Head)) error {
 	return nil
 }
 
-// LastHead is the head of the last file; nil where there is none.
+// LastHead returns the last file's head, or nil.
 func LastHead(folder string) (last *Head, err error) {
 	err = heads(folder, func(it *Head) { last = it })
 	return last, err
 }
 
-// InputNames are the names of the inputs of services in a journal, or of one service.
+// InputNames returns the input names of all services in a journal, or of one.
 func InputNames(folder, service string) (names []string, err error) {
 	seen, sums := map[string]bool{}, map[string]bool{}
 	err = heads(folder, func(it *Head) {
@@ -51,7 +51,7 @@ func InputNames(folder, service string) (names []string, err error) {
 	return names, err
 }
 
-// inputs are the inputs of a service by their names, or of all.
+// inputs returns the input names of a service, or of all.
 func (h *Head) inputs(service string) (names []string) {
 	parsed, err := model.Parse(h.Source.Text)
 	if err != nil {

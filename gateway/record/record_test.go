@@ -17,7 +17,7 @@ import (
 
 func TestMain(m *testing.M) { enginetest.Main(m) }
 
-// modelOf is what desk import writes of a table: from 5 on the price is its second argument.
+// modelOf returns an imported table: from 5 on the price is its argument.
 func modelOf(price int) string {
 	return fmt.Sprintf(`{"inputs":["a_b"],"decisions":[{"name":"d_e","needs":["a_b"],"expr":{"table":{"hit":"U","inputs":["a_b"],`+
 		`"outputs":[{"name":"p"}],"rules":[{"when":["< 500"],"then":["1"]},{"when":[">= 500"],"then":["%d"]}]}}}],`+
@@ -35,7 +35,7 @@ func (w *written) AppendLine(to []byte) []byte {
 }
 func (w *written) AppendAbout(to []byte) []byte { return append(to, w.about...) }
 
-// recorded is a journal with entries as desk http writes them, after a file of an earlier version.
+// recorded returns a journal with entries as desk http writes them, after a file from an earlier version.
 func recorded(t *testing.T) string {
 	t.Helper()
 	folder := t.TempDir()
@@ -106,7 +106,7 @@ func TestFind(t *testing.T) {
 	}
 }
 
-// Cases are decided again under the model of then and under another, with the names and decimals of the file.
+// Cases are decided again under the original model and under another, with the file's names and decimals.
 func TestDecide(t *testing.T) {
 	folder := recorded(t)
 	path, err := engine.Path()
@@ -160,7 +160,7 @@ func TestDecide(t *testing.T) {
 	}
 }
 
-// A trial asks both models for each case that can be, and says by which rules they differ.
+// A trial asks both models about each case that can be decided, and says by which rules they differ.
 func TestTrial(t *testing.T) {
 	path, err := engine.Path()
 	if err != nil {
@@ -206,7 +206,7 @@ func TestTrial(t *testing.T) {
 	}
 }
 
-// Whoever takes no more ends a trial.
+// The caller can end a trial.
 func TestTrialEnds(t *testing.T) {
 	path, err := engine.Path()
 	if err != nil {
@@ -222,7 +222,7 @@ func TestTrialEnds(t *testing.T) {
 	}
 }
 
-// What a trial keeps of answers is bounded, and says what it left out.
+// What a trial keeps of answers is limited, and says what it left out.
 func TestLongAnswers(t *testing.T) {
 	long := strings.Repeat("é", mostText)
 	one, other := whole(long), whole(long+"x")
@@ -255,7 +255,7 @@ func TestTrialOfRequestsThatTakeTooMuch(t *testing.T) {
 	if err != nil {
 		t.Fatal(err)
 	}
-	// It ends, or stands still, at the request whose input is 3, where it is asked to explain the model with the price 3.
+	// The engine ends or hangs at input 3, when it is asked to explain the model with price 3.
 	script := filepath.Join(t.TempDir(), "engine")
 	for became, does := range map[string]string{"died": "kill -9 $$", "late": "exec sleep 600"} {
 		text := fmt.Sprintf(`#!/bin/sh
@@ -288,7 +288,7 @@ done
 	}
 }
 
-// Long requests are asked in small pieces, so that a trial doesn't hold many of them.
+// Long requests are asked in small pieces, so that a trial doesn't hold many.
 func TestPiecesOfATrial(t *testing.T) {
 	path, err := engine.Path()
 	if err != nil {

@@ -11,7 +11,7 @@ import (
 	"gateway/service"
 )
 
-// processorTime is what this process and those that it began took by now, in seconds.
+// processorTime returns the processor time of this process and its children so far, in seconds.
 func processorTime(b *testing.B) (all float64) {
 	for _, of := range []int{syscall.RUSAGE_SELF, syscall.RUSAGE_CHILDREN} {
 		var used syscall.Rusage
@@ -25,7 +25,7 @@ func processorTime(b *testing.B) (all float64) {
 	return all
 }
 
-// BenchmarkTrial asks two models for small recorded requests, of which one in ten gets another answer.
+// BenchmarkTrial asks two models about small recorded requests; one in ten gets another answer.
 func BenchmarkTrial(b *testing.B) {
 	const count = 10_000
 	path, err := engine.Path()

@@ -15,41 +15,41 @@ import (
 	"gateway/service"
 )
 
-// A Trial asks two models for the cases of a journal.
+// A Trial asks two models about the cases of a journal.
 type Trial struct {
 	Asker    *Asker
 	Old, New *service.Source
-	// Asked is told how many cases were asked by now, and ends the trial with an error; it may be nil.
+	// Asked is called with the number of cases asked so far, and ends the trial with an error; it may be nil.
 	Asked func(count int) error
-	// AtOnce is of how many pieces engines are asked at once, each of two; 0 is one for each processor.
+	// AtOnce is how many pieces are asked at once, with two engines each; 0 means one for each processor.
 	AtOnce int
-	// Patience is how long an engine is waited for at one case; 0 is DefaultPatience.
+	// Patience is how long an engine may take for one case; 0 means DefaultPatience.
 	Patience time.Duration
 	// givenUp counts the cases for which an engine was given up.
 	givenUp atomic.Int64
 }
 
-// A Difference is a case that gets another answer.
+// A Difference is a case with another answer.
 type Difference struct {
 	Case   *Case
 	Inputs json.RawMessage
-	// Old and New are the results, or why there is none; of a long one its beginning, its size and its SHA-256.
+	// Old and New are the results, or why there is none; of a long one its beginning, size and SHA-256.
 	Old, New string
-	// Where says by which rules: those that decide in one model and not in the other.
+	// Where says by which rules: those that decide in only one of the models.
 	Where string
 }
 
-// A Tried is what a trial found.
+// Tried is the result of a trial.
 type Tried struct {
-	// Asked is how many cases both models were asked, Differing how many get another answer, and Left how many can't be decided
+	// Asked is how many cases both models were asked, Differing how many get another answer, Left how many can't be decided
 	// again.
 	Asked, Differing, Left int
-	// By counts the differing cases by Where; past mostKinds of these the others are counted together.
+	// By counts the differing cases by Where; after mostKinds of these the others are counted together.
 	By map[string]int
 }
 
 const (
-	// mostKinds is by how many texts cases that differ are counted, otherKinds the text for all others.
+	// mostKinds limits the texts by which differing cases are counted; otherKinds is the text for all others.
 	mostKinds  = 1000
 	otherKinds = "other rules"
 )
@@ -62,7 +62,7 @@ func (t *Tried) add(where string, count int) {
 	t.By[where] += count
 }
 
-// Counts lists what differs by its count, the most first.
+// Counts lists the differences by count, most first.
 func (t *Tried) Counts() (all []string) {
 	for where := range t.By {
 		all = append(all, where)
@@ -76,13 +76,13 @@ func (t *Tried) Counts() (all []string) {
 	return all
 }
 
-// pieceCases is how many cases are asked at once, pieceBytes about how many bytes their inputs have at most.
+// pieceCases limits the cases asked at once, pieceBytes about the bytes of their inputs.
 const (
 	pieceCases = 2500
 	pieceBytes = 1 << 20
 )
 
-// A piece is some cases in their order, with what differs of them.
+// A piece is some consecutive cases, with their differences.
 type piece struct {
 	cases []*Case
 	size  int
@@ -91,7 +91,7 @@ type piece struct {
 	done  chan struct{}
 }
 
-// Run asks both models for the cases that are wanted, and hands those that differ to take, in their order.
+// Run asks both models about the selected cases, and calls take with those that differ, in order.
 func (t *Trial) Run(ctx context.Context, folder string, filter Filter, take func(*Difference) error) (*Tried, error) {
 	ctx, stop := context.WithCancel(ctx)
 	defer stop()
@@ -105,7 +105,7 @@ func (t *Trial) Run(ctx context.Context, folder string, filter Filter, take func
 	if t.AtOnce == 0 {
 		t.AtOnce = runtime.NumCPU()
 	}
-	// One piece more is waited for.
+	// One more piece is waited for.
 	pieces, tried := make(chan *piece, t.AtOnce-1), &Tried{By: map[string]int{}}
 	var failed error
 	go func() {
@@ -117,7 +117,7 @@ func (t *Trial) Run(ctx context.Context, folder string, filter Filter, take func
 		if err := t.count(it, tried, take); err != nil {
 			stop()
 			for range pieces {
-				// The reader ends by the context.
+				// The context ends the reader.
 			}
 			return nil, err
 		}
@@ -125,7 +125,7 @@ func (t *Trial) Run(ctx context.Context, folder string, filter Filter, take func
 	return tried, failed
 }
 
-// count adds what was found of a piece.
+// count adds the findings of a piece.
 func (t *Trial) count(it *piece, tried *Tried, take func(*Difference) error) error {
 	if it.err != nil {
 		return it.err
@@ -144,7 +144,7 @@ func (t *Trial) count(it *piece, tried *Tried, take func(*Difference) error) err
 	return nil
 }
 
-// read hands the cases on in pieces, each of which is asked at once.
+// read passes the cases on in pieces, each of which is asked at once.
 func (t *Trial) read(ctx context.Context, folder string, filter Filter, tried *Tried, models [2]*service.Asked, to chan<- *piece) error {
 	next := &piece{done: make(chan struct{})}
 	hand := func() error {
@@ -166,7 +166,7 @@ func (t *Trial) read(ctx context.Context, folder string, filter Filter, tried *T
 			tried.Left++
 			return nil
 		}
-		// Both models are asked what it comes to.
+		// Both models are asked for the outcome.
 		c.Result, c.Rules = nil, nil
 		next.cases, next.size = append(next.cases, c), next.size+len(c.asked)
 		if len(next.cases) == pieceCases || next.size >= pieceBytes {
@@ -180,7 +180,7 @@ func (t *Trial) read(ctx context.Context, folder string, filter Filter, tried *T
 	return err
 }
 
-// ask asks both models, and gives the cases that differ.
+// ask asks both models, and returns the cases that differ.
 func (t *Trial) ask(ctx context.Context, cases []*Case, models [2]*service.Asked) ([]*Difference, error) {
 	inputs := make([]json.RawMessage, len(cases))
 	for at, c := range cases {
@@ -216,7 +216,7 @@ func (t *Trial) ask(ctx context.Context, cases []*Case, models [2]*service.Asked
 	return found, nil
 }
 
-// answers are those of one model.
+// answers returns the answers of one model.
 func (t *Trial) answers(ctx context.Context, cases []*Case, inputs []json.RawMessage, model *service.Asked) ([]answer, error) {
 	all, jobs, places := make([]answer, len(cases)), []*engine.Job{}, []int{}
 	for at, c := range cases {
@@ -229,10 +229,10 @@ func (t *Trial) answers(ctx context.Context, cases []*Case, inputs []json.RawMes
 	}
 	for len(jobs) > 0 {
 		count := 0
-		given, err := t.tell(ctx, model.Model(), jobs, func(told *engine.Explanation) error {
+		given, err := t.explain(ctx, model.Model(), jobs, func(explanation *engine.Explanation) error {
 			if count < len(places) {
 				at := places[count]
-				all[at] = answerOf(decisionOf(model, cases[at].Service, told))
+				all[at] = answerOf(decisionOf(model, cases[at].Service, explanation))
 			}
 			count++
 			return nil
@@ -291,7 +291,7 @@ func keys(one, other map[string]string) (all []string) {
 	return all
 }
 
-// Add adds what another trial found.
+// Add adds another trial's findings.
 func (t *Tried) Add(other *Tried) {
 	t.Asked, t.Differing, t.Left = t.Asked+other.Asked, t.Differing+other.Differing, t.Left+other.Left
 	for where, count := range other.By {

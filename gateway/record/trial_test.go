@@ -9,7 +9,7 @@ import (
 	"gateway/service"
 )
 
-// sourceOf is the model of the tests with another price.
+// sourceOf returns the tests' model with another price.
 func sourceOf(t *testing.T, price int) *service.Source {
 	t.Helper()
 	it, err := service.ReadSource([]byte(`{"model":` + modelOf(price) + `,` + names + `}`))
@@ -19,7 +19,7 @@ func sourceOf(t *testing.T, price int) *service.Source {
 	return it
 }
 
-// A trial asks the requests of a time, a caller or a rule alone, and counts those of several journals together.
+// A trial can be limited to the requests of a time, a caller or a rule, and adds up several journals.
 func TestTrialOfATime(t *testing.T) {
 	path, err := engine.Path()
 	if err != nil {

@@ -1,6 +1,5 @@
-// Package tck runs the test cases of the DMN Technology Compatibility Kit (namespace
-// http://www.omg.org/spec/DMN/20160719/testcase) against a .dmn file. It evaluates nothing: the file is imported, and
-// each answer is the engine's.
+// Package tck runs test cases of the DMN Technology Compatibility Kit (namespace http://www.omg.org/spec/DMN/20160719/testcase)
+// against a .dmn file. It evaluates nothing: the file is imported, and the engine answers.
 package tck
 
 import (
@@ -18,44 +17,44 @@ const instanceSpace = "http://www.w3.org/2001/XMLSchema-instance"
 // Cases is a file of test cases.
 type Cases struct {
 	XMLName xml.Name `xml:"http://www.omg.org/spec/DMN/20160719/testcase testCases"`
-	// Path is the name that the file was read under.
+	// Path is the name under which the file was read.
 	Path string `xml:"-"`
-	// Model is the name of the file that they are for; it may be empty.
+	// Model is the name of the tested file; it may be empty.
 	Model string `xml:"modelName"`
 	Cases []Case `xml:"testCase"`
 }
 
-// A Case is a test case: values for inputs, and the results that are due.
+// A Case is a test case: input values and expected results.
 type Case struct {
 	ID string `xml:"id,attr"`
-	// Type is what is asked: "decision", also where it is empty, "decisionService" or "bkm".
+	// Type is what is tested: "decision" (the default), "decisionService" or "bkm".
 	Type string `xml:"type,attr"`
-	// Invocable is the service or the business knowledge model that is asked.
+	// Invocable is the tested service or business knowledge model.
 	Invocable string   `xml:"invocableName,attr"`
 	Inputs    []Input  `xml:"inputNode"`
 	Results   []Result `xml:"resultNode"`
 }
 
-// A Place is a line and a column of the file of cases, both numbered from 1.
+// A Place is a line and a column of the file of cases, both from 1.
 type Place struct{ Line, Column int }
 
-// An Input is a value for an input or a decision of this name.
+// An Input is the value of an input or decision.
 type Input struct {
 	Name  string `xml:"name,attr"`
 	Place Place  `xml:"-"`
 	Value
 }
 
-// A Result is what is due of a decision or a service of this name.
+// A Result is the expected result of a decision or service.
 type Result struct {
 	Name  string `xml:"name,attr"`
 	Place Place  `xml:"-"`
-	// Error tells that no value is due: the answer is null.
+	// Error means that no value is expected: the answer is null.
 	Error    bool   `xml:"errorResult,attr"`
 	Expected *Value `xml:"expected"`
 }
 
-// A Value is one of a scalar, a list or components; none of them is null.
+// A Value is a scalar, a list or components; with none of them it is null.
 type Value struct {
 	Nil        bool        `xml:"http://www.w3.org/2001/XMLSchema-instance nil,attr"`
 	Scalar     *Scalar     `xml:"value"`
@@ -82,10 +81,10 @@ type Component struct {
 	Value
 }
 
-// mostBytes is how long a file of test cases may be, in bytes.
+// mostBytes limits the bytes of a file of test cases.
 const mostBytes = 16 << 20
 
-// Read reads a file of test cases, named path. The error tells the line where it is none.
+// Read reads a file of test cases, named path. An error names the line.
 func Read(path string, from io.Reader) (*Cases, error) {
 	limited := &io.LimitedReader{R: from, N: mostBytes + 1}
 	decoder := xml.NewDecoder(limited)
@@ -104,15 +103,14 @@ func Read(path string, from io.Reader) (*Cases, error) {
 	return &cases, nil
 }
 
-// plainTokens are the tokens of a decoder without declarations of document types, which are refused. It notes where the
-// nodes of test cases stand.
+// A plainTokens returns a decoder's tokens, and refuses document type declarations. It notes the places of test cases' nodes.
 type plainTokens struct {
 	decoder         *xml.Decoder
 	depth           int
 	inputs, results []Place
 }
 
-// depthOfNodes is how deep the nodes of a test case stand: testCases, testCase, inputNode.
+// depthOfNodes is the depth of a test case's nodes: testCases, testCase, inputNode.
 const depthOfNodes = 3
 
 func (p *plainTokens) Token() (xml.Token, error) {
@@ -134,7 +132,7 @@ func (p *plainTokens) Token() (xml.Token, error) {
 	return token, err
 }
 
-// place gives the nodes of test cases their places, which were noted in the order of the file.
+// place sets the places of test cases' nodes, noted in file order.
 func (p *plainTokens) place(cases *Cases) {
 	for i := range cases.Cases {
 		c := &cases.Cases[i]
@@ -147,7 +145,7 @@ func (p *plainTokens) place(cases *Cases) {
 	}
 }
 
-// taken takes the first of some places.
+// taken takes the first place.
 func taken(places []Place, into *Place) []Place {
 	if len(places) == 0 {
 		return nil

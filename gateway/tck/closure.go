@@ -7,8 +7,8 @@ import (
 	"gateway/feel"
 )
 
-// without is a copy of a file that has, of its decisions, these and what they need, and no services; so a part that can't
-// be taken concerns only who needs it.
+// without returns a copy of a file with only these decisions and their needs, and no services, so that a refused part only
+// affects what needs it.
 func without(file *dmn.File, wanted ...*dmn.Decision) *dmn.File {
 	c := closure{file: file, kept: map[*dmn.Element]bool{}}
 	for _, decision := range wanted {
@@ -34,13 +34,13 @@ func without(file *dmn.File, wanted ...*dmn.Decision) *dmn.File {
 	return &part
 }
 
-// A closure is what some decisions need, by the elements.
+// A closure is the needs of some decisions, by element.
 type closure struct {
 	file *dmn.File
 	kept map[*dmn.Element]bool
 }
 
-// keep notes an element, and tells whether it is new.
+// keep notes an element, and reports whether it is new.
 func (c closure) keep(e *dmn.Element) bool {
 	known := c.kept[e]
 	c.kept[e] = true
@@ -96,7 +96,7 @@ func refersTo(reference *dmn.Reference, e *dmn.Element) bool {
 	return reference.Href[strings.LastIndexByte(reference.Href, '#')+1:] == e.ID()
 }
 
-// decisionNamed is the decision of a name, nil where there is none.
+// decisionNamed returns the decision with a name, or nil.
 func decisionNamed(file *dmn.File, name string) *dmn.Decision {
 	for _, decision := range file.Decisions {
 		if feel.Canonical(decision.Name()) == feel.Canonical(name) {

@@ -8,17 +8,17 @@ import (
 	"gateway/types"
 )
 
-// A dated value is a date, a time or a duration as a cases file writes it.
+// A dated value is a date, time or duration as a cases file writes it.
 type dated struct{ kind, text string }
 
-// datedKinds are the types of XML Schema for such values.
+// datedKinds are the XML Schema types of such values.
 var datedKinds = map[string]bool{"date": true, "time": true, "dateTime": true, "duration": true, "dayTimeDuration": true,
 	"yearMonthDuration": true}
 
 // MarshalJSON writes its text.
 func (d dated) MarshalJSON() ([]byte, error) { return json.Marshal(d.text) }
 
-// placed is a value of an input with the texts of its dates, where its type has such.
+// placed returns an input's value with dates as texts, if its type has dates.
 func placed(of *types.Type, value any) (any, error) {
 	var err error
 	switch value := value.(type) {
@@ -43,8 +43,8 @@ func placed(of *types.Type, value any) (any, error) {
 	return value, nil
 }
 
-// asDue is a value that is due of a type, with dates and durations in the form that results have. One that no result can be
-// stays as it is.
+// asDue returns an expected value of a type, with dates and durations in the form of results. A value that no result can have
+// is unchanged.
 func asDue(of *types.Type, value any) any {
 	if of == nil {
 		return value

@@ -11,7 +11,7 @@ import (
 	"gateway/model"
 )
 
-// datedFile has a date, a decision over it, and one over the day of a clock.
+// datedFile has a date, a decision on it, and one on the day of a clock.
 const datedFile = `<definitions xmlns="https://www.omg.org/spec/DMN/20191111/MODEL/" name="m" namespace="n">
 <inputData id="i" name="Day"/><inputData id="j" name="Count"/>
 <decision id="a" name="Next"><informationRequirement><requiredInput href="#i"/></informationRequirement><literalExpression><text>Day</text></literalExpression></decision>
@@ -39,7 +39,7 @@ func translateDated(part *dmn.File) Translation {
 	return t
 }
 
-// TestDatesOfCases has cases with dates, as XML Schema writes them.
+// TestDatesOfCases has cases with dates in XML Schema's form.
 func TestDatesOfCases(t *testing.T) {
 	day := func(name, kind, text string) string {
 		return `<inputNode name="` + name + `"><value xsi:type="xsd:` + kind + `">` + text + `</value></inputNode>`

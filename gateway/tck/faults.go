@@ -8,11 +8,11 @@ import (
 	"gateway/near"
 )
 
-// A Fault is a node of a file of cases whose name the .dmn file doesn't have.
+// A Fault is a node of a cases file whose name is not in the .dmn file.
 type Fault struct {
 	Path  string
 	Place Place
-	// Node is the tag: resultNode or inputNode. Near is the name that may be meant; it may be empty.
+	// Node is the tag: resultNode or inputNode. Near is a similar name, or "".
 	Node, Name, Near string
 }
 
@@ -29,8 +29,7 @@ func (f Fault) String() string {
 	return line
 }
 
-// Faults are the nodes of some cases whose names a file doesn't have. Free are the names of inputs that the file doesn't
-// declare.
+// Faults returns the nodes whose names are not in a file. free are the names of undeclared inputs.
 func Faults(file *dmn.File, cases *Cases, free []string) []Fault {
 	inputs, decisions := namesOf(file, free)
 	var all []Fault
@@ -53,7 +52,7 @@ func Faults(file *dmn.File, cases *Cases, free []string) []Fault {
 	return all
 }
 
-// asked is the name of the decision, service or business knowledge model that a result node is of.
+// asked returns the name of the decision, service or business knowledge model that a result node tests.
 func (c *Case) asked(node string) string {
 	if c.Type == "decisionService" && c.Invocable != "" {
 		return c.Invocable
@@ -61,8 +60,8 @@ func (c *Case) asked(node string) string {
 	return node
 }
 
-// Only leaves the result nodes that a service answers: a decision service, or a decision. It tells how many are left out,
-// and whether there is such a service.
+// Only keeps the result nodes that a service answers: a decision service, or a decision. It returns how many are left out, and
+// whether there is such a service.
 func (c *Cases) Only(file *dmn.File, service string) (left int, found bool) {
 	answers := names{}
 	if s := serviceNamed(file, service); s != nil {
@@ -89,7 +88,7 @@ func (c *Cases) Only(file *dmn.File, service string) (left int, found bool) {
 	return left, len(answers) > 0
 }
 
-// names are the names of parts of a file, by their canonical form.
+// A names maps canonical names to the names of a file's parts.
 type names map[string]string
 
 func (n names) add(name string) { n[feel.Canonical(name)] = name }
@@ -107,7 +106,7 @@ func (n names) near(name string) string {
 	return near.To(name, all)
 }
 
-// namesOf are the names that values may be given for, and those that results may be of.
+// namesOf returns the names that may have values, and those that may have results.
 func namesOf(file *dmn.File, free []string) (inputs, results names) {
 	inputs, results = names{}, names{}
 	for _, name := range free {

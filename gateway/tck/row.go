@@ -6,7 +6,7 @@ import (
 	"gateway/lines"
 )
 
-// Row is the object of a case's inputs, with the names of the file, or says which value is none of the profile.
+// Row returns a case's inputs as an object, with the file's names, or says which value is not in the profile.
 func (c *Case) Row() ([]byte, error) {
 	row := make(map[string]any, len(c.Inputs))
 	for at := range c.Inputs {

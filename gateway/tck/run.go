@@ -13,21 +13,21 @@ import (
 	"gateway/model"
 )
 
-// An Outcome is how a test ended.
+// An Outcome is the outcome of a test.
 type Outcome string
 
 const (
 	Pass Outcome = "PASS"
 	Fail Outcome = "FAIL"
-	// Unsupported tests ask for what the profile has not.
+	// Unsupported tests need something outside the profile.
 	Unsupported Outcome = "UNSUPPORTED"
 )
 
-// A Verdict is what is said of one result node of a test case.
+// A Verdict is the result for one result node of a test case.
 type Verdict struct {
 	Case, Node string
 	Outcome    Outcome
-	// Said tells what was due and what came, or what can't be taken; it is empty where the test passed.
+	// Said says what was expected and what came, or what is not supported; it is empty if the test passed.
 	Said string
 }
 
@@ -39,12 +39,11 @@ func (v Verdict) String() string {
 	return line
 }
 
-// A Translation is what an import makes of a file: a model with the words of its names, or the places that can't be
-// taken, one line each.
+// A Translation is the import of a file: a model with the words for its names, or the refused places, one line each.
 type Translation struct {
 	Model *model.Model
 	Names map[string]string
-	// Types has the JSON Schema of each input and decision by its word; it says how the model counts its numbers.
+	// Types has the JSON Schemas of inputs and decisions by word; they say how the model counts numbers.
 	Types    map[string]json.RawMessage
 	Refusals []string
 }
@@ -52,11 +51,11 @@ type Translation struct {
 // A Translator imports a file.
 type Translator func(*dmn.File) Translation
 
-// StepsOfAResult is how many steps Run takes for each result node: it is planned, and asked.
+// StepsOfAResult is how many steps Run takes for each result node: plan and ask.
 const StepsOfAResult = 2
 
-// Run runs all cases, and gives a verdict for each result node, in the order of the file. It counts its steps in done. An
-// error says that the engine could not be asked.
+// Run runs all cases, and returns a verdict for each result node, in file order. It counts its steps in done. An error means
+// that the engine could not be asked.
 func Run(ctx context.Context, file *dmn.File, cases *Cases, translate Translator, done *atomic.Int64) ([]Verdict, error) {
 	r := &runner{file: file, translate: translate, subjects: map[string]*subject{}}
 	var tests []*test
@@ -80,7 +79,7 @@ func Run(ctx context.Context, file *dmn.File, cases *Cases, translate Translator
 	return verdicts, nil
 }
 
-// A test is one result node: what is asked and what is due.
+// A test is one result node: the question and the expected answer.
 type test struct {
 	at       Verdict
 	due      any
@@ -95,7 +94,7 @@ func (t *test) refuse(said string) *test {
 	return t
 }
 
-// A runner plans the tests of one file.
+// A runner plans the tests of a file.
 type runner struct {
 	file      *dmn.File
 	translate Translator
@@ -138,7 +137,7 @@ func (r *runner) plan(c *Case, result *Result) *test {
 	return t
 }
 
-// subject is the service that a result node asks; or why there is none.
+// subject returns the service that a result node asks, or why there is none.
 func (r *runner) subject(c *Case, node string) (*subject, string) {
 	key := c.Type + "\x00" + c.Invocable + "\x00" + node
 	given := r.givenDecisions(c)
@@ -156,7 +155,7 @@ func (r *runner) subject(c *Case, node string) (*subject, string) {
 	return s, s.refused
 }
 
-// givenDecisions are the decisions for which a case brings values.
+// givenDecisions returns the decisions whose values a case brings.
 func (r *runner) givenDecisions(c *Case) []*dmn.Decision {
 	var given []*dmn.Decision
 	for _, input := range c.Inputs {
@@ -182,7 +181,7 @@ func (r *runner) newSubject(c *Case, node string, given []*dmn.Decision) *subjec
 	return r.ofDecision(decision, given)
 }
 
-// ofDecision is a subject that answers one decision.
+// ofDecision returns a subject that answers one decision.
 func (r *runner) ofDecision(decision *dmn.Decision, given []*dmn.Decision) *subject {
 	wanted := append([]*dmn.Decision{decision}, given...)
 	made := r.translate(without(r.file, wanted...))
@@ -209,7 +208,7 @@ func (r *runner) ofDecision(decision *dmn.Decision, given []*dmn.Decision) *subj
 	return s
 }
 
-// ofService is a subject that answers a service of the file.
+// ofService returns a subject that answers a service of the file.
 func (r *runner) ofService(service *dmn.DecisionService) *subject {
 	var wanted []*dmn.Decision
 	for _, list := range [][]*dmn.Reference{service.Outputs, service.Encapsulated, service.Decisions} {
@@ -234,7 +233,7 @@ func (r *runner) ofService(service *dmn.DecisionService) *subject {
 	return s
 }
 
-// wordsOf turns the names of the words round.
+// wordsOf inverts the names of words.
 func wordsOf(names map[string]string) words {
 	w := words{}
 	for word, name := range names {
@@ -243,7 +242,7 @@ func wordsOf(names map[string]string) words {
 	return w
 }
 
-// of is the word of a name.
+// of returns the word of a name.
 func (w words) of(name string) string {
 	if word, found := w[feel.Canonical(name)]; found {
 		return word
@@ -251,7 +250,7 @@ func (w words) of(name string) string {
 	return name
 }
 
-// verdict compares what is due with what came.
+// verdict compares the expected value with the answer.
 func (t *test) verdict() Verdict {
 	if t.at.Outcome != "" {
 		return t.at

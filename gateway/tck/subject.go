@@ -17,7 +17,7 @@ type subject struct {
 	words   words
 	service string
 	refused string
-	// types are those of inputs and decisions, result that of what the service answers; nil where none is known.
+	// types has the types of inputs and decisions, result the type of the answer; nil if unknown.
 	types     map[string]*types.Type
 	result    *types.Type
 	questions []map[string]any
@@ -32,7 +32,7 @@ type answer struct {
 	Refused string `json:"refused"`
 }
 
-// ask puts all questions to the engine.
+// ask asks the engine all questions.
 func (s *subject) ask(ctx context.Context) error {
 	if len(s.questions) == 0 {
 		return nil

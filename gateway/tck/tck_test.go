@@ -12,7 +12,7 @@ import (
 
 const head = `<testCases xmlns="` + Space + `" xmlns:xsi="` + instanceSpace + `" xmlns:xsd="http://www.w3.org/2001/XMLSchema">`
 
-// file has an input "Full Price" and two decisions, of which the second needs the first.
+// file has an input "Full Price" and two decisions; the second needs the first.
 const file = `<definitions xmlns="https://www.omg.org/spec/DMN/20191111/MODEL/" name="m" namespace="n">
 <inputData id="i" name="Full Price"/>
 <decision id="a" name="Net Price"><informationRequirement><requiredInput href="#i"/></informationRequirement>
@@ -23,7 +23,7 @@ const file = `<definitions xmlns="https://www.omg.org/spec/DMN/20191111/MODEL/" 
 <literalExpression><text>Full Price / 2</text></literalExpression></decision>
 </definitions>`
 
-// translate is the translation of the file above, worked out by hand.
+// translate returns the translation of the file above, made by hand.
 func translate(part *dmn.File) Translation {
 	t := Translation{Model: &model.Model{Inputs: []string{"Full_Price"}}, Names: map[string]string{
 		"Full_Price": "Full Price", "Net_Price": "Net Price", "All": "All"}}
@@ -98,7 +98,7 @@ func TestEachResultNodeHasAVerdict(t *testing.T) {
 	}
 }
 
-// TestWhatCantComeFails has results that are due and that no answer can be.
+// TestWhatCantComeFails has expected results that no answer can have.
 func TestWhatCantComeFails(t *testing.T) {
 	for due, said := range map[string]string{
 		`<value xsi:type="xsd:date">2020-01-01</value>`:                        `due "2020-01-01", came 9`,
@@ -117,7 +117,7 @@ func TestWhatCantComeFails(t *testing.T) {
 	}
 }
 
-// TestUnknownNodesAreFaultsOfTheCases has nodes whose names the file doesn't have.
+// TestUnknownNodesAreFaultsOfTheCases has nodes whose names are not in the file.
 func TestUnknownNodesAreFaultsOfTheCases(t *testing.T) {
 	read, err := dmn.Read("file", strings.NewReader(file))
 	if err != nil {

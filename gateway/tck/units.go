@@ -9,7 +9,7 @@ import (
 	"gateway/types"
 )
 
-// count reads how the model counts the numbers of inputs, and of the results of its service.
+// count reads how the model counts the numbers of inputs and results.
 func (s *subject) count(schemas map[string]json.RawMessage) {
 	s.types = make(map[string]*types.Type, len(schemas))
 	for word, schema := range schemas {
@@ -38,10 +38,10 @@ func (s *subject) count(schemas map[string]json.RawMessage) {
 	}
 }
 
-// has tells whether the model has an input or a decision; it is a part of the file.
+// has reports whether the model has an input or decision, as it has only a part of the file.
 func (s *subject) has(word string) bool { return len(s.types) == 0 || s.types[word] != nil }
 
-// counted is a value of an input as the engine has it, or why it is none.
+// counted returns an input's value as the engine has it, or an error.
 func (s *subject) counted(word string, value any) (any, error) {
 	of := s.types[word]
 	if of == nil {
@@ -58,7 +58,7 @@ func (s *subject) counted(word string, value any) (any, error) {
 	return units, nil
 }
 
-// decimals is a result of the engine as the file has it.
+// decimals returns a result of the engine as the file has it.
 func (s *subject) decimals(result any) any {
 	if s.result == nil {
 		return result

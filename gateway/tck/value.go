@@ -8,11 +8,11 @@ import (
 	"strings"
 )
 
-// words gives the word of a name of the file; a name that has none stays as it is.
+// A words maps names of the file to words; other names stay as they are.
 type words map[string]string
 
-// json is a value as the engine reads it: with the words of the model in contexts, and dates and durations as dated. An error
-// says that there is no such value.
+// json returns a value for the engine: with the model's words in contexts, and dates and durations as dated. It returns an
+// error if there is no such value.
 func (v *Value) json(w words) (any, error) {
 	switch {
 	case v == nil || v.Nil:
@@ -27,10 +27,10 @@ func (v *Value) json(w words) (any, error) {
 	return nil, nil
 }
 
-// A foreign value is due, and no value of the profile is the same.
+// A foreign value is expected, and outside the profile.
 type foreign string
 
-// due is a value as it is compared with an answer. What no answer can be is a foreign value.
+// due returns a value for comparison with an answer. What no answer can be is a foreign value.
 func (v *Value) due(w words) any {
 	switch {
 	case v == nil || v.Nil:
@@ -95,7 +95,7 @@ func (l *List) json(w words) (any, error) {
 	return all, nil
 }
 
-// json is a scalar; without a type it is a text.
+// json returns a scalar; without a type it is a text.
 func (s *Scalar) json() (any, error) {
 	if s.Nil {
 		return nil, nil
@@ -114,7 +114,7 @@ func (s *Scalar) json() (any, error) {
 	}
 }
 
-// kind is the name of the scalar's type without its prefix.
+// kind returns the scalar's type without prefix.
 func (s *Scalar) kind() string { return s.Type[strings.LastIndexByte(s.Type, ':')+1:] }
 
 func (s *Scalar) isNumber() bool {
@@ -125,13 +125,13 @@ func (s *Scalar) isNumber() bool {
 	return false
 }
 
-// decimal is a number as XML Schema writes it, with an exponent that is not far out.
+// decimal is a number in XML Schema's form, with a small exponent.
 var decimal = regexp.MustCompile(`^[-+]?([0-9]+\.?[0-9]*|\.[0-9]+)([eE][-+]?[0-9]{1,3})?$`)
 
-// mostDigits is how many digits behind the point a number has that is shown.
+// mostDigits limits the digits shown after a point.
 const mostDigits = 64
 
-// rational is the number of a text; nil where it is none.
+// rational returns the number in a text, or nil.
 func rational(text string) *big.Rat {
 	if len(text) > 2*mostDigits || !decimal.MatchString(text) {
 		return nil
@@ -143,7 +143,7 @@ func rational(text string) *big.Rat {
 	return number
 }
 
-// number is a number in its shortest form; one with too many digits is an error.
+// number returns a number in its shortest form, or an error if it has too many digits.
 func number(text string) (any, error) {
 	value := rational(text)
 	if value == nil {
@@ -156,7 +156,7 @@ func number(text string) (any, error) {
 	return json.Number(shortest), nil
 }
 
-// same tells whether two values are the same, as JSON with json.Number for its numbers.
+// same reports whether two JSON values with json.Number are equal.
 func same(a, b any) bool {
 	switch x := a.(type) {
 	case []any:
@@ -198,7 +198,7 @@ func sameContexts(a, b map[string]any) bool {
 	return true
 }
 
-// said is a value as JSON.
+// said returns a value as JSON.
 func said(value any) string {
 	var text strings.Builder
 	encoder := json.NewEncoder(&text)

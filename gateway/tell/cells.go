@@ -6,20 +6,20 @@ import (
 	"strings"
 )
 
-// A cell are the values of one column in a finding.
+// A cell holds the values of one column in a finding.
 type cell struct {
 	null, yes, no, parted bool
 	numbers               []span
 	words                 []string
 	runs                  []textRun
-	// allBut says that these are all texts but some, which are words then.
+	// allBut means every text except words.
 	allBut bool
 }
 
-// A textRun are the texts between two, neither included; an end that is nil is open.
+// A textRun holds the texts between two others, both excluded; a nil end is open.
 type textRun struct{ above, below *string }
 
-// A factCell are the values of one column in a finding, as the engine writes them.
+// A factCell holds the values of one column in a finding, as the engine writes them.
 type factCell struct {
 	Null   bool   `json:"null"`
 	True   bool   `json:"true"`
@@ -27,17 +27,16 @@ type factCell struct {
 	Parted bool   `json:"parted"`
 	From   *int64 `json:"from"`
 	To     *int64 `json:"to"`
-	// Texts are words of the column.
+	// Texts lists words of the column.
 	Texts []string `json:"texts"`
-	// TextsBut are the words of the column, where all others are of the cell.
+	// TextsBut lists the words of the column that the cell lacks; it has all other texts.
 	TextsBut *[]string `json:"texts_but"`
-	// But are the words of the column between two, where those between these that are no word are of the cell. One of the two that is
-	// nil is no bound.
+	// But lists the words between Above and Below that the cell lacks; it has the other texts between them. A nil end is open.
 	But          *[]string `json:"but"`
 	Above, Below *string
 }
 
-// values are those of a cell as they are told.
+// values returns the cell as it is reported.
 func (f *factCell) values() cell {
 	c := cell{null: f.Null, yes: f.True, no: f.False, parted: f.Parted, words: f.Texts}
 	if f.From != nil && f.To != nil {
@@ -56,7 +55,7 @@ func (f *factCell) values() cell {
 	return c
 }
 
-// without are the texts that are none of these.
+// without returns the texts that are not in others.
 func without(texts []string, others set) (left []string) {
 	for _, text := range texts {
 		if !others[text] {
@@ -66,7 +65,7 @@ func without(texts []string, others set) (left []string) {
 	return left
 }
 
-// runs are the texts between two, parted at the words between them that are not of the cell.
+// runs returns the texts between above and below, split at the words there that are not in own.
 func runs(above, below *string, but []string, own set) (all []textRun) {
 	for at := range but {
 		if word := &but[at]; !own[*word] {
@@ -76,8 +75,8 @@ func runs(above, below *string, but []string, own set) (all []textRun) {
 	return appendRun(all, textRun{above, below})
 }
 
-// appendRun adds a run, unless it has no text: none is less than the empty one, and none is between a text and the same with U+0000
-// after it.
+// appendRun adds a run unless it is empty: nothing is below the empty text, nor between a text and the same text with U+0000
+// appended.
 func appendRun(all []textRun, r textRun) []textRun {
 	isVoid := r.below != nil && (r.above == nil && *r.below == "" || r.above != nil && *r.below == *r.above+"\x00")
 	if isVoid {
@@ -86,7 +85,7 @@ func appendRun(all []textRun, r textRun) []textRun {
 	return append(all, r)
 }
 
-// joinLeast makes one of the empty text and of a run that begins after it.
+// joinLeast joins the empty text with a run that begins right after it.
 func (c *cell) joinLeast() {
 	if len(c.words) == 0 || c.words[0] != "" || len(c.runs) == 0 || c.runs[0].above == nil || *c.runs[0].above != "" {
 		return
@@ -97,7 +96,7 @@ func (c *cell) joinLeast() {
 	}
 }
 
-// covers tells whether the cell has all values of these kinds.
+// covers reports whether the cell has all values of these kinds.
 func (c *cell) covers(k kinds) bool {
 	hasNumbers := len(c.numbers) > 0 && c.numbers[0] == span{least, greatest}
 	hasTexts := c.allBut && len(c.words) == 0
@@ -105,17 +104,17 @@ func (c *cell) covers(k kinds) bool {
 		(!k.parted || c.parted)
 }
 
-// hasOthers tells whether the cell has values of other kinds than these.
+// hasOthers reports whether the cell has values of other kinds.
 func (c *cell) hasOthers(k kinds) bool {
 	hasTexts := c.allBut || len(c.words) > 0 || len(c.runs) > 0
 	return c.null && !k.null || (c.yes || c.no) && !k.truths || len(c.numbers) > 0 && !k.numbers || hasTexts && !k.texts ||
 		c.parted && !k.parted
 }
 
-// mostPieces is how many ranges of numbers, and how many texts, are told of a column.
+// mostPieces limits the number ranges, and the texts, reported for a column.
 const mostPieces = 8
 
-// text are the values of a column, as "<= -1 or null".
+// text returns the column's values, such as "<= -1 or null".
 func (c *cell) text() string {
 	if c.covers(everyKind) {
 		return "any"
@@ -138,7 +137,7 @@ func (c *cell) text() string {
 	return strings.Join(parts, " or ")
 }
 
-// moreOf adds how many pieces are not told.
+// moreOf adds how many pieces are left out.
 func moreOf(parts []string, count int) []string {
 	if count > mostPieces {
 		return append(parts, fmt.Sprintf("%d more", count-mostPieces))
@@ -190,13 +189,13 @@ func (c *cell) allButText() string {
 	return text
 }
 
-// A stretch are texts from one to another. Where the first is nil they are those up to the second, and the other way round.
+// A stretch holds the texts from low to high. A nil low means all texts up to high, a nil high all from low.
 type stretch struct {
 	low, high       *string
 	hasLow, hasHigh bool
 }
 
-// stretches are the words and the runs in their order, each run with the words at its ends.
+// stretches returns the words and the runs in order, each run with the words at its ends.
 func (c *cell) stretches() []stretch {
 	ends, found := set{}, set{}
 	for _, r := range c.runs {

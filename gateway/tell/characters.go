@@ -2,20 +2,20 @@ package tell
 
 import "unicode/utf8"
 
-// blockBytes is how many bytes of a text are counted together.
+// blockBytes is the number of bytes counted together.
 const blockBytes = 1024
 
-// A lineIndex counts the characters of a text's lines. It reads the text once, when it is asked for the first time: a spot costs the
-// same anywhere in a long line.
+// A lineIndex counts characters in a text's lines. It reads the text once, on first use, so a spot far into a long line costs
+// no more than any other.
 type lineIndex struct {
 	text []byte
-	// starts are where the lines begin.
+	// starts holds the offsets of the lines.
 	starts []int
-	// further has for each block how many bytes before it are not the first of their character.
+	// further holds, for each block, how many bytes before it continue a character.
 	further []int
 }
 
-// characters is the column of a spot in characters, which has it in bytes.
+// characters returns a spot's column in characters; the spot has it in bytes.
 func (x *lineIndex) characters(spot Spot) int {
 	x.read()
 	if spot.Line < 1 || spot.Line > len(x.starts) || spot.Column < 1 {
@@ -49,7 +49,7 @@ func (x *lineIndex) read() {
 	x.further = append(x.further, count)
 }
 
-// furtherBefore is how many bytes before an offset are not the first of their character.
+// furtherBefore returns how many bytes before an offset continue a character.
 func (x *lineIndex) furtherBefore(offset int) int {
 	block := offset / blockBytes
 	count := x.further[block]

@@ -10,38 +10,37 @@ import (
 	"runtime/debug"
 )
 
-// Statuses of `desk check` and `desk explain`.
+// Exit statuses of `desk check` and `desk explain`.
 const (
-	// StatusFault is that of a run that a fault of reading, of writing or of memory ended.
+	// StatusFault means that reading, writing or memory failed.
 	StatusFault = 1
-	// statusModel is that of a model that has a fault, statusRefused that of one of which --strict refuses a table, or --strict-null what
-	// a service can give.
+	// statusModel means that the model has a fault. statusRefused means that --strict refuses one of its tables, or
+	// --strict-null what a service can give.
 	statusModel   = 3
 	statusRefused = 4
 )
 
-// mostBytes is how many bytes of a model and of requests are checked.
+// mostBytes limits the model and requests that check reads.
 const mostBytes = 64 << 20
 
-// CheckOptions are those of `desk check`.
+// CheckOptions holds the options of `desk check`.
 type CheckOptions struct {
-	// Format is that of what is written; empty is text.
+	// Format is the output format; empty means text.
 	Format Format
-	// Name is the path of the file, as notices have it; empty for standard input. Version is that of the program.
+	// Name is the file's path as notices show it; empty for standard input. Version is the program's version.
 	Name, Version string
-	// Origins says where the parts of an imported model are in its files, by their JSON Pointers. It is nil where the model is what
-	// was read.
+	// Origins maps JSON Pointers of an imported model to places in its files. It is nil if the model was read directly.
 	Origins map[string]Spot
-	// Imported are notices that come before those of the model.
+	// Imported holds notices that go before those of the model.
 	Imported []Notice
-	// Requests says that the model is the first line, and that lines of requests follow.
+	// Requests means that the model is the first line and request lines follow.
 	Requests bool
-	// Tables asks for what is found of decision tables, Strict for a status of its own where something is.
+	// Tables asks for findings about decision tables. Strict also sets the status if there are any.
 	Tables, Strict bool
-	// Gives asks for what services and decisions can give, StrictNull too, with a status of its own where a service can give null or
-	// break a limit.
+	// Gives asks what services and decisions can give. StrictNull also sets the status if a service can give null or break a
+	// limit.
 	Gives, StrictNull bool
-	// isRefused says that Strict or StrictNull refuses the model.
+	// isRefused means that Strict or StrictNull refuses the model.
 	isRefused bool
 }
 
@@ -59,8 +58,8 @@ func (o CheckOptions) words() []string {
 	return words
 }
 
-// Check has the engine check the model that in gives, and writes what is found to out, in words. The status is the engine's. An
-// error says that the engine could not be run; what else goes wrong is told on errOut.
+// Check runs the engine on the model in in and writes the findings to out, in words. It returns the engine's status. It returns
+// an error if the engine could not be run; other failures are reported on errOut.
 func Check(ctx context.Context, engine string, options CheckOptions, in io.Reader, out, errOut io.Writer) (status int, err error) {
 	text := bytes.NewBuffer(make([]byte, 0, mostLine+bytes.MinRead))
 	if _, err := text.ReadFrom(io.LimitReader(in, mostBytes+1)); err != nil {
@@ -77,16 +76,16 @@ func Check(ctx context.Context, engine string, options CheckOptions, in io.Reade
 		return status, nil
 	}
 	options.isRefused = status == statusRefused
-	told, err := Told(options, input, output)
+	reported, err := Told(options, input, output)
 	if err != nil && options.Format.HasNotices() {
 		fmt.Fprintf(errOut, "desk: what was found could not be written as %s: %v\n", options.Format, err)
 		return StatusFault, nil
 	}
 	if err != nil {
 		fmt.Fprintf(errOut, "desk: what was found could not be worded: %v\n", err)
-		told = output
+		reported = output
 	}
-	if _, err := out.Write(told); err != nil {
+	if _, err := out.Write(reported); err != nil {
 		fmt.Fprintln(errOut, "write")
 		return StatusFault, nil
 	}
@@ -94,13 +93,13 @@ func Check(ctx context.Context, engine string, options CheckOptions, in io.Reade
 }
 
 const (
-	// smallText is a text that is checked without collecting garbage, until so much memory is taken.
+	// smallText is the largest text checked without garbage collection, up to this much memory.
 	smallText   = 2 << 20
 	uncollected = 128 << 20
 )
 
-// collectLess lets garbage be while a text of this many bytes is checked, since the memory that is taken for a small one is little
-// anyway. The function that it gives ends that.
+// collectLess turns garbage collection down while a text of this size is checked, as a small text needs little memory anyway.
+// Call end to turn it up again.
 func collectLess(size int) (end func()) {
 	if size > smallText {
 		return func() {}
@@ -130,8 +129,8 @@ func run(ctx context.Context, engine string, input []byte, errOut io.Writer, wor
 	return output, 0, nil
 }
 
-// Told words what the engine found in a model: output are its lines, input is what it read.
-func Told(options CheckOptions, input, output []byte) (told []byte, err error) {
+// Told words the engine's findings about a model. output holds the engine's lines, input what it read.
+func Told(options CheckOptions, input, output []byte) (reported []byte, err error) {
 	defer recovered(&err)
 	facts, err := readFacts(output)
 	if err != nil {
@@ -147,7 +146,7 @@ func Told(options CheckOptions, input, output []byte) (told []byte, err error) {
 		r.file.origins, r.file.isSpread = options.Origins, isSpread(options.Origins)
 	}
 	if facts.IsLawful {
-		err = r.lawful()
+		err = r.valid()
 	} else {
 		r.faulty()
 	}
@@ -157,7 +156,7 @@ func Told(options CheckOptions, input, output []byte) (told []byte, err error) {
 	return r.out.Bytes(), err
 }
 
-// recovered makes an error of a panic.
+// recovered turns a panic into an error.
 func recovered(err *error) {
 	if cause := recover(); cause != nil {
 		*err = fmt.Errorf("a fault of the program: %v", cause)

@@ -13,7 +13,7 @@ import (
 	"testing/iotest"
 )
 
-// engineThat is a program that reads its input, writes these lines and ends with this status.
+// engineThat returns a program that reads its input, writes these lines and exits with this status.
 func engineThat(t *testing.T, status int, lines ...string) string {
 	t.Helper()
 	folder := t.TempDir()
@@ -30,7 +30,7 @@ func engineThat(t *testing.T, status int, lines ...string) string {
 
 const ring = `{"inputs":[],"decisions":[{"name":"d","needs":["d"],"expr":"1"}],"services":[]}`
 
-// TestWhatCannotBeWorded hands the engine's lines on as they are, with its status and a line on standard error.
+// TestWhatCannotBeWorded passes the engine's lines through unchanged, with its status and a line on standard error.
 func TestWhatCannotBeWorded(t *testing.T) {
 	for name, lines := range map[string][]string{
 		"a place that is none":    {`{"fault":"cycle"}`, `{"fault":"cycle","pointer":"/decisions/99"}`},
@@ -49,7 +49,7 @@ func TestWhatCannotBeWorded(t *testing.T) {
 	}
 }
 
-// TestWhatCannotBeANotice writes nothing where a tool would read something else than its format.
+// TestWhatCannotBeANotice writes nothing where a tool expects its own format.
 func TestWhatCannotBeANotice(t *testing.T) {
 	engine := engineThat(t, 3, `{"fault":"cycle"}`, `{"fault":"cycle","pointer":"/decisions/99"}`)
 	for _, format := range []Format{SARIF, GitHub} {
@@ -61,7 +61,7 @@ func TestWhatCannotBeANotice(t *testing.T) {
 	}
 }
 
-// TestCheckWords needs of the engine nothing but faults and pointers.
+// TestCheckWords needs nothing from the engine but faults and pointers.
 func TestCheckWords(t *testing.T) {
 	engine := engineThat(t, 3, `{"fault":"cycle"}`, `{"fault":"cycle","pointer":"/decisions/0"}`)
 	var out, errOut bytes.Buffer
@@ -72,7 +72,7 @@ func TestCheckWords(t *testing.T) {
 	}
 }
 
-// TestDevicesThatFail tells a failed read and a failed write by one word, as the engine does.
+// TestDevicesThatFail uses one word for a failed read and one for a failed write, as the engine does.
 func TestDevicesThatFail(t *testing.T) {
 	engine := engineThat(t, 0, `{"lawful":true}`)
 	var errOut bytes.Buffer
@@ -95,7 +95,7 @@ func TestDevicesThatFail(t *testing.T) {
 	}
 }
 
-// TestExplainWords makes texts of the engine's lines, and hands on what is no explanation.
+// TestExplainWords words the engine's lines, and passes through what is no explanation.
 func TestExplainWords(t *testing.T) {
 	model := `{"decisions":[{"expr":"a + 1","name":"d","needs":["a"]}],"inputs":["a"],"services":[{"encapsulated":[],"inputData":["a"],"inputDecisions":[],"name":"s","outputs":["d"]}]}`
 	engine := engineThat(t, 0, `{"line":1,"model":true,"read":`+model+`,"sha256":"5f"}`,

@@ -1,8 +1,7 @@
-// Package tell words what the engine finds. The engine says what is wrong with a model, which lines of requests it refuses, what
-// its decision tables leave open and how an answer came about, as lines of JSON; this package says it to people, with the line
-// and column of each place, what could be there, and what to write instead. It decides nothing: whether a model is lawful, and
-// where it is not, is what the engine says.
+// Package tell words what the engine finds: faults of models, refused request lines, findings about decision tables, and
+// explanations of answers. The engine reports these as lines of JSON. This package adds line and column, what could be there,
+// and what to write instead. It decides nothing: whether a model is valid is up to the engine.
 //
-// What is told follows from the engine's lines and from the bytes of the file alone. Where this package fails, the engine's
-// lines are handed on as they are.
+// The words depend only on the engine's lines and the bytes of the file. If this package fails, the engine's lines are passed
+// through unchanged.
 package tell

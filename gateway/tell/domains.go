@@ -8,13 +8,13 @@ import (
 	"gateway/lines"
 )
 
-// domainFault is the word of what is declared beside a model and can't be taken, and domainsKey the key of that.
+// domainFault is the fault of a bad declaration next to a model, and domainsKey its key.
 const (
 	domainFault = "domain"
 	domainsKey  = "domains"
 )
 
-// What is said of a domain.
+// Messages about a domain.
 const (
 	saidNoObject   = "no object: a domain is a text under the name of an input"
 	saidNoInput    = "no input of the model"
@@ -24,14 +24,14 @@ const (
 	saidConstants  = "constants alone are taken"
 )
 
-// A domain is a place beside the model that can't be taken: that of a name, or the whole of what is declared.
+// A domain is a declaration next to the model that is refused: that of one name, or the whole object.
 type domain struct {
 	pointer, name string
 	isWhole       bool
 	part          lines.Node
 }
 
-// domains tells the places of domains that can't be taken.
+// domains reports the domains that are refused.
 func (r *report) domains() {
 	var found []domain
 	more := 0
@@ -49,7 +49,7 @@ func (r *report) domains() {
 	r.more(domainFault, more)
 }
 
-// domainAt is what stands at a pointer beside the model.
+// domainAt returns what is at a pointer next to the model.
 func (r *report) domainAt(pointer string) domain {
 	it := domain{pointer: pointer, isWhole: pointer == "/"+domainsKey}
 	it.part, _ = r.file.doc.Member(r.file.doc.Whole, domainsKey)
@@ -60,7 +60,7 @@ func (r *report) domainAt(pointer string) domain {
 	return it
 }
 
-// words are the place of a domain as people read it.
+// words returns the place of a domain for people.
 func (d domain) words() string {
 	if d.isWhole {
 		return domainsKey
@@ -68,7 +68,7 @@ func (d domain) words() string {
 	return domainsKey + ", " + quoted(d.name)
 }
 
-// domain tells a domain that can't be taken.
+// domain reports a domain that is refused.
 func (r *report) domain(it domain) {
 	text, isText := r.file.doc.Text(it.part)
 	said, hint := r.file.domainMistake(it)
@@ -82,9 +82,9 @@ func (r *report) domain(it domain) {
 		words += ": " + quoted(text)
 	}
 	whole := withHint(withHint(words, strings.TrimSpace(stopWords(text, stop))), hint)
-	r.noticeAt(ofFault+domainFault, Error, spot, it.pointer, behindColon(it.words(), whole))
+	r.noticeAt(ofFault+domainFault, Error, spot, it.pointer, afterColon(it.words(), whole))
 	r.put(func() string {
-		return "  " + r.file.spotWords(spot) + behindColon(it.words(), words) + "\n" + stopWords(text, stop) + indented(hint)
+		return "  " + r.file.spotWords(spot) + afterColon(it.words(), words) + "\n" + stopWords(text, stop) + indented(hint)
 	}, func() string {
 		o := object(nil).text("fault", domainFault).text("pointer", it.pointer).text("place", it.words()).text("said", said)
 		if isText {
@@ -127,7 +127,7 @@ func (f *file) isDecision(name string) bool {
 	return false
 }
 
-// nameInTests is the first name in unary tests; empty where there is none, or the text can't be read.
+// nameInTests returns the first name in unary tests, or "" if there is none or the text has no reading.
 func nameInTests(text string) (first string) {
 	tests, ok := strict.ReadTests(text)
 	if !ok {

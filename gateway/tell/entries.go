@@ -10,8 +10,8 @@ import (
 	"gateway/model"
 )
 
-// usedEntries are the entries that a model takes of its inputs, by the inputs' names: `age` of `p` where a text has `p.age`. An
-// input is left out that some context hides with a name of its own.
+// usedEntries returns the entries that a model takes from its inputs, by input: `age` of `p` where a text has `p.age`. It
+// leaves out inputs that some context hides.
 func usedEntries(m *model.Model) map[string]set {
 	u := entryUses{inputs: setOf(m.Inputs), used: map[string]set{}, hidden: set{}}
 	for at := range m.Decisions {
@@ -23,7 +23,7 @@ func usedEntries(m *model.Model) map[string]set {
 	return u.used
 }
 
-// entryUses is a walk through the texts of a model, in search for entries of inputs.
+// An entryUses walks through the texts of a model and collects entries of inputs.
 type entryUses struct {
 	inputs map[string]bool
 	used   map[string]set
@@ -94,13 +94,13 @@ func (u *entryUses) name(used valueName) {
 	u.used[used.name][used.entry] = true
 }
 
-// entryNames are entries that texts take of an input.
+// An entryNames holds the entries that texts take from an input.
 type entryNames struct {
 	index *nameIndex
 	has   set
 }
 
-// entryNamesOf are the entries of each input, in the order of their bytes.
+// entryNamesOf returns the entries of each input, sorted by bytes.
 func entryNamesOf(used map[string]set) map[string]*entryNames {
 	of := make(map[string]*entryNames, len(used))
 	for input, entries := range used {
@@ -114,8 +114,7 @@ func entryNamesOf(used map[string]set) map[string]*entryNames {
 	return of
 }
 
-// misspelt puts notes on the entries of an input that the model never takes, and that are nearly one that it takes and that is
-// missing.
+// misspelt notes entries of an input that the model never takes but that are close to a missing one.
 func (r *reading) misspelt(doc *lines.Document, name string, value lines.Node) {
 	used := r.used[name]
 	if used == nil || doc.Kind(value) != '{' {

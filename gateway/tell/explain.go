@@ -11,11 +11,11 @@ import (
 	"strconv"
 )
 
-// ExplainOptions are those of `desk explain`.
+// ExplainOptions holds the options of `desk explain`.
 type ExplainOptions struct {
-	// Clients is how many clients may have a lane: 1 to 64, 0 for the engine's usual number.
+	// Clients limits the clients with a lane: 1 to 64, or 0 for the engine's default.
 	Clients int
-	// Misses asks for each rule that missed, Text for texts for people.
+	// Misses asks for each rule that missed, Text for text instead of JSON.
 	Misses, Text bool
 }
 
@@ -30,28 +30,28 @@ func (o ExplainOptions) words() []string {
 	return words
 }
 
-// Explain has the engine answer the lines that in gives, and writes to out how each answer came about. The status is the engine's. An
-// error says that the engine could not be run; what else goes wrong is told on errOut.
+// Explain has the engine answer the lines in in, and writes to out how each answer came about. It returns the engine's status.
+// It returns an error if the engine could not be run; other failures are reported on errOut.
 func Explain(ctx context.Context, engine string, options ExplainOptions, in io.Reader, out, errOut io.Writer) (status int, err error) {
 	command := exec.CommandContext(ctx, engine, options.words()...)
 	command.Stdin, command.Stdout, command.Stderr = in, out, errOut
-	var told chan error
+	var written chan error
 	if options.Text {
 		command.Stdout = nil
 		lines, err := command.StdoutPipe()
 		if err != nil {
 			return 0, fmt.Errorf("running the engine %s: %w", engine, err)
 		}
-		told = make(chan error, 1)
+		written = make(chan error, 1)
 		defer lines.Close()
 		if err := command.Start(); err != nil {
 			return 0, fmt.Errorf("running the engine %s: %w", engine, err)
 		}
-		go func() { told <- writeTexts(lines, out, errOut) }()
+		go func() { written <- writeTexts(lines, out, errOut) }()
 	} else if err := command.Start(); err != nil {
 		return 0, fmt.Errorf("running the engine %s: %w", engine, err)
 	}
-	if told != nil && <-told != nil {
+	if written != nil && <-written != nil {
 		fmt.Fprintln(errOut, "write")
 		_ = command.Process.Kill()
 		_ = command.Wait()
@@ -68,7 +68,7 @@ func Explain(ctx context.Context, engine string, options ExplainOptions, in io.R
 	return 0, nil
 }
 
-// writeTexts writes a text for each line. What was read is written before it waits for more.
+// writeTexts writes a text for each line. It writes what it has before it waits for more.
 func writeTexts(from io.Reader, out, errOut io.Writer) error {
 	in, to := lineReader{from: bufio.NewReaderSize(from, 64<<10)}, bufio.NewWriterSize(out, 64<<10)
 	var e explainer
@@ -96,18 +96,18 @@ func (e *explainer) worded(line []byte, out io.Writer) (err error) {
 }
 
 const (
-	// usualLine is up to how many bytes the room for a line grows bit by bit, longestLine is the room of a longer one: that of an
-	// explanation of the most decisions. Room that isn't used takes no memory.
+	// A line of up to usualLine bytes grows its buffer bit by bit. A longer one gets longestLine at once, enough for an
+	// explanation of the most decisions. Unused room takes no memory.
 	usualLine, longestLine = 1 << 20, 72 << 20
 )
 
-// A lineReader reads lines of any length, each into the room of the last.
+// A lineReader reads lines of any length, reusing the buffer of the last.
 type lineReader struct {
 	from *bufio.Reader
 	room []byte
 }
 
-// next is the next line without its newline, good until the one behind it is read. An error comes with what is left.
+// next returns the next line without its newline, valid until the next call. With an error it returns what is left.
 func (r *lineReader) next() ([]byte, error) {
 	r.room = r.room[:0]
 	for {

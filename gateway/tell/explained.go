@@ -8,14 +8,13 @@ import (
 	"gateway/model"
 )
 
-// explainer makes texts of the lines of `desk explain`, one after another.
+// An explainer words the lines of `desk explain`, one after another.
 type explainer struct {
-	// decisions are those of the model of the last line that has one.
+	// decisions holds those of the last model.
 	decisions map[string]*model.Decision
 }
 
-// write writes a line as a text, with an empty line behind an explanation. That of a model names the model, that of a request which
-// is explained has several lines, and any other is the line itself.
+// write writes a line as text. A model becomes its name, an explanation several lines and an empty one; other lines are copied.
 func (e *explainer) write(line []byte, out io.Writer) {
 	m := membersOf(line)
 	switch read := m.get("read"); {
@@ -43,10 +42,10 @@ func (e *explainer) take(read []byte) {
 	}
 }
 
-// mostClient is how many letters of a client's name are shown.
+// mostClient limits the letters shown of a client's name.
 const mostClient = 64
 
-// explain writes an explanation. Its text is made once to see whether it is too long, and where it isn't short once more.
+// explain writes an explanation. It makes the text once to see whether it is too long, and again if it isn't short.
 func (e *explainer) explain(m members, out io.Writer) {
 	seen := &page{}
 	addHead(seen, m)
@@ -71,8 +70,8 @@ func (e *explainer) explain(m members, out io.Writer) {
 	}
 }
 
-// addHead adds who asks for what, by which model that is answered, and the inputs in the order of their names. A row of a file has no
-// client, and is asked of one model.
+// addHead adds the client, the service, the model, and the inputs sorted by name. A row of a file has no client, and only one
+// model.
 func addHead(to *page, m members) {
 	fmt.Fprintf(to, "line %d: ", m.number("line"))
 	isOfClient := m.get("client") != nil
@@ -102,7 +101,7 @@ func addHead(to *page, m members) {
 	}
 }
 
-// Blanks before a decision, and how many more come before its parts.
+// decisionIndent is the indent of a decision, partIndent the further indent of its parts.
 const decisionIndent, partIndent = 2, 4
 
 func (e *explainer) addDecisions(to *page, m members) {
@@ -115,36 +114,36 @@ func (e *explainer) addDecisions(to *page, m members) {
 		if to.isLong() {
 			return
 		}
-		told := membersOf(raw)
-		name := told.text("name")
+		explained := membersOf(raw)
+		name := explained.text("name")
 		decision := e.decisions[name]
-		if decision == nil || told.get("given") != nil {
-			addPartLine(to, name, nil, told, decisionIndent)
+		if decision == nil || explained.get("given") != nil {
+			addPartLine(to, name, nil, explained, decisionIndent)
 		} else {
-			addPart(to, name, decision.Expr, told, decisionIndent)
+			addPart(to, name, decision.Expr, explained, decisionIndent)
 		}
 	}
 }
 
-// addPart adds a boxed expression, with its value and how it came to that.
-func addPart(to *page, label string, logic model.Expression, told members, indent int) {
-	addPartLine(to, label, logic, told, indent)
+// addPart adds a boxed expression, its value and how that came about.
+func addPart(to *page, label string, logic model.Expression, explained members, indent int) {
+	addPartLine(to, label, logic, explained, indent)
 	indent += partIndent
 	switch logic := logic.(type) {
 	case *model.Table:
-		if raw := told.get("table"); raw != nil {
+		if raw := explained.get("table"); raw != nil {
 			t := explainedTable{logic, membersOf(raw), indent}
 			t.add(to)
 		}
 	case model.List:
-		addParts(to, told.list("members"), indent, len(logic), func(at int) (string, model.Expression) {
+		addParts(to, explained.list("members"), indent, len(logic), func(at int) (string, model.Expression) {
 			return fmt.Sprintf("member %d", at+1), logic[at]
 		})
 	case model.Context:
-		addParts(to, told.list("entries"), indent, len(logic.Entries), func(at int) (string, model.Expression) {
+		addParts(to, explained.list("entries"), indent, len(logic.Entries), func(at int) (string, model.Expression) {
 			return logic.Entries[at].Name, logic.Entries[at].Expr
 		})
-		if raw := told.get("result"); raw != nil && logic.Result != nil {
+		if raw := explained.get("result"); raw != nil && logic.Result != nil {
 			addPart(to, "result", logic.Result, membersOf(raw), indent)
 		}
 	}
@@ -162,14 +161,14 @@ func addParts(to *page, parts [][]byte, indent, count int, of func(at int) (stri
 	}
 }
 
-// addPartLine adds the value of a boxed expression, and the text that it comes from.
-func addPartLine(to *page, label string, logic model.Expression, told members, indent int) {
+// addPartLine adds the value of a boxed expression and its source text.
+func addPartLine(to *page, label string, logic model.Expression, explained members, indent int) {
 	addBlanks(to, indent)
 	to.WriteString(label)
-	if value := told.get("value"); value != nil {
+	if value := explained.get("value"); value != nil {
 		to.WriteString(" = ")
 		addShown(to, value)
-	} else if given := told.get("given"); given != nil {
+	} else if given := explained.get("given"); given != nil {
 		to.WriteString(" is given: ")
 		addShown(to, given)
 	} else {

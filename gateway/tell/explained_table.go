@@ -8,14 +8,14 @@ import (
 	"gateway/model"
 )
 
-// An explainedTable is a table with what is told of it.
+// An explainedTable is a table and its explanation.
 type explainedTable struct {
 	*model.Table
-	told   members
-	indent int
+	explained members
+	indent    int
 }
 
-// mostShownRules is with how many rules each is shown. Of more those that hit are shown, unless each miss is told.
+// mostShownRules is the largest table of which each rule is shown. In larger ones only hits are, unless misses are asked for.
 const mostShownRules = 40
 
 var policyNames = map[string]string{
@@ -23,12 +23,11 @@ var policyNames = map[string]string{
 	"C+": "COLLECT SUM", "C<": "COLLECT MIN", "C>": "COLLECT MAX", "C#": "COLLECT COUNT",
 }
 
-// add adds the hit policy, the values of the inputs, and the rules, with "*" before each that hit and ">" before those that
-// decided.
+// add adds the hit policy, the input values and the rules, with "*" before each hit and ">" before those that decided.
 func (t *explainedTable) add(to *page) {
 	addBlanks(to, t.indent)
 	fmt.Fprintf(to, "hit policy %s (%s): %s\n", t.Hit, policyNames[t.Hit], t.outcome())
-	for at, value := range t.told.list("inputs") {
+	for at, value := range t.explained.list("inputs") {
 		if at == len(t.Inputs) {
 			break
 		}
@@ -38,40 +37,40 @@ func (t *explainedTable) add(to *page) {
 		addShown(to, value)
 		to.addByte('\n')
 	}
-	if t.told.get("hits") != nil {
+	if t.explained.get("hits") != nil {
 		t.addRows(to)
 	}
 }
 
-// outcome is how many rules hit, and how many decided.
+// outcome says how many rules hit, and how many decided.
 func (t *explainedTable) outcome() string {
 	switch {
-	case t.told.get("hits") == nil && t.told.get("inputs") == nil:
+	case t.explained.get("hits") == nil && t.explained.get("inputs") == nil:
 		return "an input expression breaks a limit"
-	case t.told.get("hits") == nil:
+	case t.explained.get("hits") == nil:
 		return "an input entry breaks a limit"
 	}
-	hits := len(t.told.list("hits"))
+	hits := len(t.explained.list("hits"))
 	text := fmt.Sprintf("%d of %d rules hit", hits, len(t.Rules))
 	switch {
-	case t.told.isTrue("defaults"):
+	case t.explained.isTrue("defaults"):
 		return text + ", the defaults decided"
 	case hits == 0:
 		return text
-	case t.told.get("decided") == nil:
+	case t.explained.get("decided") == nil:
 		return text + ", an output of these breaks a limit"
 	}
-	return fmt.Sprintf("%s, %d of these decided", text, len(t.told.list("decided")))
+	return fmt.Sprintf("%s, %d of these decided", text, len(t.explained.list("decided")))
 }
 
-// An explainedRule is what is told of a rule.
+// An explainedRule is the explanation of a rule.
 type explainedRule struct {
-	// hit is what is told of it where it hit, column the one at which it missed.
+	// hit is the explanation of a rule that hit, column the one at which it missed.
 	hit, column []byte
 	decided     bool
 }
 
-// rules are what is told of each rule.
+// rules returns the explanation of each rule.
 func (t *explainedTable) rules() []explainedRule {
 	rules := make([]explainedRule, len(t.Rules))
 	at := func(raw []byte) *explainedRule {
@@ -81,21 +80,21 @@ func (t *explainedTable) rules() []explainedRule {
 		}
 		return &rules[number-1]
 	}
-	for _, hit := range t.told.list("hits") {
+	for _, hit := range t.explained.list("hits") {
 		at(membersOf(hit).get("rule")).hit = hit
 	}
-	for _, number := range t.told.list("decided") {
+	for _, number := range t.explained.list("decided") {
 		at(number).decided = true
 	}
-	for _, miss := range t.told.list("misses") {
+	for _, miss := range t.explained.list("misses") {
 		m := membersOf(miss)
 		at(m.get("rule")).column = t.missedAt(m.get("column"))
 	}
 	return rules
 }
 
-// missedAt is the column at which a rule missed. One after those of the table has conditions of others: it is empty where these may
-// be several.
+// missedAt returns the column at which a rule missed. After the table's columns come conditions of other columns; the result is
+// empty if it may be one of several.
 func (t *explainedTable) missedAt(column []byte) []byte {
 	number, err := strconv.Atoi(string(column))
 	switch {
@@ -107,12 +106,12 @@ func (t *explainedTable) missedAt(column []byte) []byte {
 	return []byte{}
 }
 
-// addRows adds the heads of the columns, the rules, how many are left out, and the defaults where these decided.
+// addRows adds the column heads, the rules, how many are left out, and the defaults if these decided.
 func (t *explainedTable) addRows(to *page) {
 	rules := t.rules()
-	showsAll := len(rules) <= mostShownRules || t.told.get("misses") != nil
+	showsAll := len(rules) <= mostShownRules || t.explained.get("misses") != nil
 	isShown := func(at int) bool { return showsAll || rules[at].hit != nil }
-	takesDefaults := t.told.isTrue("defaults")
+	takesDefaults := t.explained.isTrue("defaults")
 	widths := widen(nil, t.heads())
 	for at := range rules {
 		if isShown(at) {
@@ -135,20 +134,20 @@ func (t *explainedTable) addRows(to *page) {
 	}
 	if !showsAll {
 		addBlanks(to, t.indent)
-		fmt.Fprintf(to, "rules that missed, and are left out: %d\n", len(rules)-len(t.told.list("hits")))
+		fmt.Fprintf(to, "rules that missed, and are left out: %d\n", len(rules)-len(t.explained.list("hits")))
 	}
 	if takesDefaults {
 		t.addPlainRow(to, t.defaults(), widths)
 	}
 }
 
-// addPlainRow adds a row of which nothing is told.
+// addPlainRow adds a row without explanation.
 func (t *explainedTable) addPlainRow(to *page, row []string, widths []int) {
 	addRow(to, row, widths, t.indent)
 	to.addByte('\n')
 }
 
-// heads are the input expressions, and the names of the outputs.
+// heads returns the input expressions and the output names.
 func (t *explainedTable) heads() []string {
 	row := []string{""}
 	for _, input := range t.Inputs {
@@ -160,13 +159,13 @@ func (t *explainedTable) heads() []string {
 	return row
 }
 
-// row is a rule: whether it hit and decided, its number, its entries, and what it gives.
-func (t *explainedTable) row(at int, told explainedRule) []string {
+// row returns a rule: whether it hit and decided, its number, its entries and its outputs.
+func (t *explainedTable) row(at int, explained explainedRule) []string {
 	mark := " "
 	switch {
-	case told.decided:
+	case explained.decided:
 		mark = ">"
-	case told.hit != nil:
+	case explained.hit != nil:
 		mark = "*"
 	}
 	row := []string{fmt.Sprintf("%s %d", mark, at+1)}
@@ -194,7 +193,7 @@ func (t *explainedTable) defaults() []string {
 	return row
 }
 
-// addNote adds what a rule gave that hit, or at which column one missed.
+// addNote adds what a rule gave, or the column at which it missed.
 func (r *explainedRule) addNote(to *page, blanks int) {
 	switch {
 	case r.hit != nil:
@@ -210,7 +209,7 @@ func (r *explainedRule) addNote(to *page, blanks int) {
 	}
 }
 
-// addGiven adds what a hit gave, and its places among the output values.
+// addGiven adds what a hit gave, and the places of that among the output values.
 func addGiven(to *page, hit members) {
 	value := hit.get("value")
 	if value == nil {

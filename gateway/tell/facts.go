@@ -7,49 +7,49 @@ import (
 	"fmt"
 )
 
-// facts are what the engine says of a model, in lines of JSON. All words are this package's.
+// A facts holds what the engine reports about a model. All words are this package's.
 type facts struct {
 	IsLawful bool   `json:"lawful"`
 	Fault    string `json:"fault"`
-	// places are those of faults, in their order, and how many more there are of each.
+	// places holds the places of faults in order, and how many more there are of each fault.
 	places []factPlace
-	// gives are what the services and decisions can give; nil where nothing is told of that.
+	// gives is what services and decisions can give; nil if the engine doesn't report it.
 	gives *givesFacts
-	// tables and findings are what was found of the decision tables.
+	// tables holds the findings about decision tables.
 	tables []*factTable
-	// untold is how many tables are not told of.
-	untold int
-	// notes are the lines of requests that are refused, and how many more are.
+	// unreported is how many tables are left out.
+	unreported int
+	// notes holds the refused request lines, and how many more there are.
 	notes     []factNote
 	moreNotes int
 }
 
-// A factPlace is a place of a fault, or how many more there are.
+// A factPlace is the place of a fault, or how many more there are.
 type factPlace struct {
 	Fault   string `json:"fault"`
 	Pointer string `json:"pointer"`
 	More    int    `json:"more"`
-	// Length is that of the line of a model that is too long.
+	// Length is the length of a model line that is too long.
 	Length int `json:"length"`
 }
 
-// A factNote is a line of requests that is refused, or how many more are.
+// A factNote is a refused request line, or how many more there are.
 type factNote struct {
 	Line int `json:"line"`
-	// Note is the word by which it is refused.
+	// Note is the word of the refusal.
 	Note string `json:"note"`
 	More int    `json:"more"`
-	// Fault is that of a model that is refused.
+	// Fault is the fault of a refused model.
 	Fault string `json:"fault"`
 }
 
-// A factTable is what was found of a decision table. What is nil was not decided.
+// A factTable holds the findings about a decision table. What is nil was not decided.
 type factTable struct {
 	Table    string `json:"table"`
 	Complete *bool  `json:"complete"`
 	Asked    *bool  `json:"asked"`
 	Words    *bool  `json:"words"`
-	// Unique is empty where overlaps don't count under the hit policy, and null where it was not decided.
+	// Unique is empty if the hit policy allows overlaps, and null if it was not decided.
 	Unique    json.RawMessage `json:"unique"`
 	Steps     int             `json:"steps"`
 	Undecided undecided       `json:"undecided"`
@@ -58,7 +58,7 @@ type factTable struct {
 	more map[string]int
 }
 
-// isUnique says whether no two rules overlap; nil where that was not decided or not asked.
+// isUnique says whether no two rules overlap; nil if that was not decided or not asked.
 func (t *factTable) isUnique() *bool {
 	switch string(t.Unique) {
 	case "true":
@@ -70,10 +70,10 @@ func (t *factTable) isUnique() *bool {
 	return nil
 }
 
-// A ruleList are rules, of which the first is rule 1.
+// A ruleList holds rules, counted from 1.
 type ruleList []int
 
-// UnmarshalJSON reads rules as the engine writes them, of which the first is rule 0.
+// UnmarshalJSON reads rules as the engine writes them, counted from 0.
 func (l *ruleList) UnmarshalJSON(text []byte) error {
 	var rules []int
 	if err := json.Unmarshal(text, &rules); err != nil {
@@ -88,25 +88,24 @@ func (l *ruleList) UnmarshalJSON(text []byte) error {
 
 // An undecided says why something about a table is not known.
 type undecided struct {
-	// Rules have tests that names or lists decide, Outputs are two rules that both apply and of which names decide what they give,
-	// Ranks are rules of which it is not known which go before them, and Idle are rules for which no values were found for which they
-	// decide.
+	// Rules have tests that names or lists decide. Outputs are two rules that both apply and whose outputs names decide. Ranks
+	// are rules whose order is not known. Idle are rules for which no deciding values were found.
 	Rules   ruleList `json:"rules,omitempty"`
 	Outputs ruleList `json:"outputs,omitempty"`
 	Ranks   ruleList `json:"ranks,omitempty"`
 	Idle    ruleList `json:"idle,omitempty"`
-	// Steps says that the steps of a search ran out.
+	// Steps means that a search ran out of steps.
 	Steps bool `json:"steps,omitempty"`
 }
 
-// A factFinding is a finding of a table.
+// A factFinding is a finding about a table.
 type factFinding struct {
 	Finding string            `json:"finding"`
 	Rules   ruleList          `json:"rules"`
 	Witness []json.RawMessage `json:"witness"`
 	Cells   []factCell        `json:"cells"`
 	IsAsked *bool             `json:"asked"`
-	// Before are rules that go before one that never decides.
+	// Before lists the rules that go before one that never decides.
 	Before ruleList `json:"before"`
 	More   int      `json:"more"`
 }
@@ -133,7 +132,7 @@ func readFacts(output []byte) (*facts, error) {
 	return f, nil
 }
 
-// take reads a line behind the first. Which it is the key that it begins with says.
+// take reads a line after the first. Its first key says what it is.
 func (f *facts) take(line []byte) error {
 	switch {
 	case bytes.HasPrefix(line, []byte(`{"fault":`)):
@@ -148,9 +147,9 @@ func (f *facts) take(line []byte) error {
 		}
 		return f.gives.take(line)
 	case bytes.HasPrefix(line, []byte(`{"table":null`)):
-		var untold factPlace
-		err := json.Unmarshal(line, &untold)
-		f.untold = untold.More
+		var unreported factPlace
+		err := json.Unmarshal(line, &unreported)
+		f.unreported = unreported.More
 		return err
 	case bytes.HasPrefix(line, []byte(`{"table":`)):
 		table := &factTable{more: map[string]int{}}

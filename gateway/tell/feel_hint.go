@@ -7,7 +7,7 @@ import (
 	"gateway/feel/strict"
 )
 
-// What to write in place of a text without a reading.
+// Hints about a text that has no reading.
 const (
 	hintComma       = `write a comma for "or" between tests`
 	hintDash        = `an entry that any input meets is "-"`
@@ -37,7 +37,7 @@ const (
 	hintLetters     = "a name has the letters A-Z and a-z, digits and _ alone; a text stands in quotes"
 )
 
-// hintOf is what to write in place of a text that has no reading of its kind and stops here; empty where nothing is known.
+// hintOf returns what to write instead of a text that has no reading of its kind and stops here; "" if nothing is known.
 func hintOf(kind strict.Kind, text string, stop strict.Stop) string {
 	if stop.IsTooDeep() {
 		return ""
@@ -54,7 +54,7 @@ func hintOf(kind strict.Kind, text string, stop strict.Stop) string {
 	return cutAt(text, stop.At).hint(kind)
 }
 
-// hintOfKind is what helps whatever the text stops at.
+// hintOfKind returns a hint that doesn't depend on where the text stops.
 func hintOfKind(kind strict.Kind, text string) string {
 	switch kind {
 	case strict.UnaryTests:
@@ -72,7 +72,7 @@ func hintOfKind(kind strict.Kind, text string) string {
 	return ""
 }
 
-// hintOfLiteral is what helps where words are in the place of a literal.
+// hintOfLiteral returns a hint about words in the place of a literal.
 func hintOfLiteral(text string) string {
 	if text == "" || strict.IsDigit(text[0]) || printed(text) == hintQuotes {
 		return ""
@@ -88,7 +88,7 @@ func hintOfLiteral(text string) string {
 	return fmt.Sprintf(`a text stands in quotes: "%s"`, text)
 }
 
-// hint is what helps at a stop.
+// hint returns the hint for a stop.
 func (c cut) hint(kind strict.Kind) string {
 	for _, hint := range []func(strict.Kind) string{c.ofNumber, c.ofSign, c.ofPrint, c.ofKeyword, c.ofBracket, c.ofChain, c.ofWord} {
 		if found := hint(kind); found != "" {
@@ -110,7 +110,7 @@ func (c cut) ofNumber(strict.Kind) string {
 	return ""
 }
 
-// ofSign is for signs of other languages.
+// ofSign handles signs of other languages.
 func (c cut) ofSign(kind strict.Kind) string {
 	last, first, second := c.last(), c.at(0), c.at(1)
 	isTests := kind == strict.UnaryTests
@@ -219,11 +219,10 @@ func (c cut) ofWord(kind strict.Kind) string {
 	return fmt.Sprintf(`a name has no blank: "%s" and the word behind it are joined by _, or are a text in quotes`, last)
 }
 
-// mostFunctionWords is how many words of the name of a function are looked at.
+// mostFunctionWords limits the words looked at for a function's name.
 const mostFunctionWords = 4
 
-// functionName is the name of a function that has blanks, of which this is the first word; empty where no parenthesis comes behind
-// the others.
+// functionName returns the name of a function with blanks, of which first is the first word; "" if no parenthesis follows.
 func functionName(first, rest string) string {
 	name := first
 	for count := 0; count < mostFunctionWords; count++ {
@@ -241,7 +240,7 @@ func functionName(first, rest string) string {
 	return ""
 }
 
-// hintOfCall is what helps where the arguments of a call are too many or too few.
+// hintOfCall returns a hint about too many or too few arguments.
 func hintOfCall(text string, stop strict.Stop) string {
 	rest := text[stop.At:]
 	isSurplus := strings.HasPrefix(rest, ",") && isDue(stop, strict.DueCloseParen)
@@ -269,7 +268,7 @@ func isDue(stop strict.Stop, due strict.Due) bool {
 	return false
 }
 
-// calledAt is what comes before the innermost parenthesis that is open at a byte.
+// calledAt returns the text before the innermost parenthesis that is open at a byte.
 func calledAt(text string, at int) string {
 	tokens, depth := strict.Tokens(text), 0
 	for i := len(tokens) - 1; i >= 0; i-- {
@@ -297,7 +296,7 @@ func calledAt(text string, at int) string {
 	return ""
 }
 
-// A bound is a test by order.
+// A bound is a comparison with <, <=, > or >=.
 type bound struct {
 	value           string
 	isLow, isClosed bool
@@ -308,8 +307,8 @@ func boundOf(text string, sign strict.Token, end int) bound {
 	return bound{strings.TrimSpace(text[sign.End:end]), mark[0] == '>', len(mark) == 2}
 }
 
-// intervalOf is the interval that two tests by order with "and" between are, as [5..7) of ">= 5 and < 7"; empty where a text is
-// something else.
+// intervalOf returns two comparisons with "and" between as an interval: [5..7) for ">= 5 and < 7". It returns "" for other
+// texts.
 func intervalOf(text string) string {
 	tokens := strict.Tokens(text)
 	if len(tokens) == 0 || tokens[0].Sort != strict.Order {

@@ -6,7 +6,7 @@ import (
 	"gateway/feel/strict"
 )
 
-// reads tells whether a text has a reading of a kind.
+// reads reports whether a text has a reading of a kind.
 func reads(kind strict.Kind, text string) bool {
 	ok := false
 	switch kind {
@@ -20,7 +20,7 @@ func reads(kind strict.Kind, text string) bool {
 	return ok
 }
 
-// mend is the text that is meant by one without a reading, where that is known; it always has a reading.
+// mend returns the text that is probably meant by one without a reading, or "". It always has a reading.
 func mend(kind strict.Kind, text string, stop strict.Stop) string {
 	var candidates []string
 	c := cutAt(text, stop.At)
@@ -38,7 +38,7 @@ func mend(kind strict.Kind, text string, stop strict.Stop) string {
 	return ""
 }
 
-// cellMends are what an input entry may mean that is written as in another language.
+// cellMends returns what an input entry written as in another language may mean.
 func cellMends(text string) []string {
 	var mends []string
 	if rest := strings.TrimPrefix(text, "<>"); rest != text {
@@ -72,7 +72,7 @@ func cellMends(text string) []string {
 	return mends
 }
 
-// toInterval is the interval that "5 to 7" is.
+// toInterval turns "5 to 7" into an interval.
 func (c cut) toInterval() string {
 	if word(c.rest) != "to" {
 		return ""
@@ -80,7 +80,7 @@ func (c cut) toInterval() string {
 	return "[" + strings.TrimSpace(c.before) + ".." + strings.TrimSpace(c.rest[2:]) + "]"
 }
 
-// negated is a text with parentheses behind a "not", around the rest up to this byte.
+// negated puts parentheses after a "not", around the rest up to this byte.
 func (c cut) negated(end int) string {
 	if c.lastWord() != "not" || strings.TrimSpace(c.rest[:end]) == "" {
 		return ""
@@ -89,7 +89,8 @@ func (c cut) negated(end int) string {
 	return c.before + "(" + inside + ")" + c.rest[len(inside):]
 }
 
-// conditionEnd is where a condition ends at the start of a text: at an "and" or "or", or at what closes the form around it.
+// conditionEnd returns where the condition at the start of a text ends: at an "and" or "or", or where the form around it
+// closes.
 func conditionEnd(text string) int {
 	depth, isBetween := 0, false
 	for _, token := range strict.Tokens(text) {
@@ -117,7 +118,7 @@ func conditionEnd(text string) int {
 	return len(text)
 }
 
-// modulo is a text with modulo(a, b) for a % b or a mod b.
+// modulo turns a % b or a mod b into modulo(a, b).
 func (c cut) modulo() string {
 	rest := ""
 	switch sign := word(c.rest); {
@@ -136,7 +137,7 @@ func (c cut) modulo() string {
 	return c.before[:begin] + "modulo(" + c.before[begin:] + ", " + rest[:end] + ")" + rest[end:]
 }
 
-// operandBegin is where the last operand of a text begins: a constant, a name or a path, a call, or what is in brackets.
+// operandBegin returns where the last operand of a text begins: a constant, a name or path, a call, or something in brackets.
 func operandBegin(text string) int {
 	tokens, depth := strict.Tokens(text), 0
 	for at := len(tokens) - 1; at >= 0; at-- {
@@ -157,13 +158,13 @@ func operandBegin(text string) int {
 	return len(text)
 }
 
-// joins tells whether two tokens are of one operand.
+// joins reports whether two tokens belong to one operand.
 func joins(one, other strict.Sort) bool {
 	isCall := other == strict.OpenParen && (one == strict.Function || one == strict.Modulo || one == strict.Not)
 	return isCall || one == strict.Dot || other == strict.Dot
 }
 
-// operandEnd is where the first operand of a text ends.
+// operandEnd returns where the first operand of a text ends.
 func operandEnd(text string) int {
 	tokens, depth := strict.Tokens(text), 0
 	for at, token := range tokens {
@@ -183,7 +184,7 @@ func operandEnd(text string) int {
 	return 0
 }
 
-// compared is a text with = for "is", and != for "is not".
+// compared turns "is" into =, and "is not" into !=.
 func (c cut) compared() string {
 	if word(c.rest) != "is" {
 		return ""
@@ -195,7 +196,7 @@ func (c cut) compared() string {
 	return c.before + " " + sign + " " + rest
 }
 
-// withSubject is a text with what is compared before a sign behind an "and" or "or".
+// withSubject repeats the compared value before a sign that follows an "and" or "or".
 func (c cut) withSubject() string {
 	last := c.lastWord()
 	if last != "and" && last != "or" || !isOrder(c.at(0)) && c.at(0) != '!' {
@@ -221,7 +222,7 @@ func (c cut) withSubject() string {
 	return c.before + " " + c.before[tokens[begin].Start:tokens[sign-1].End] + " " + c.rest
 }
 
-// endsCondition tells whether a condition begins behind such a token.
+// endsCondition reports whether a condition begins after such a token.
 func endsCondition(sort strict.Sort) bool {
 	switch sort {
 	case strict.And, strict.Or, strict.If, strict.Then, strict.Else, strict.OpenParen, strict.OpenBracket, strict.Comma:
@@ -230,10 +231,10 @@ func endsCondition(sort strict.Sort) bool {
 	return false
 }
 
-// joinedSigns are the signs that two signs in a row are.
+// joinedSigns maps two signs in a row to the sign they mean.
 var joinedSigns = map[string]string{"=<": "<=", "=>": ">=", "<=": "<=", ">=": ">="}
 
-// joinedSign is a text with one sign for two, as <= for "= <" and for "< =".
+// joinedSign turns two signs into one: <= for "= <" and for "< =".
 func (c cut) joinedSign() string {
 	if c.before != "" && c.rest != "" {
 		if sign := joinedSigns[c.before[len(c.before)-1:]+c.rest[:1]]; sign != "" {
@@ -250,7 +251,7 @@ func (c cut) joinedSign() string {
 	return c.before + joinedSigns["="+rest[:1]] + " " + strings.TrimLeft(rest[1:], " ")
 }
 
-// joinsTexts tells whether a sign that joins texts in other languages stands beside a text.
+// joinsTexts reports whether a sign that joins texts in other languages is next to a text.
 func (c cut) joinsTexts() bool {
 	rest := strings.TrimLeft(strings.TrimPrefix(c.rest, "&"), " ")
 	return c.at(0) == '&' && c.at(1) != '&' && (c.last() == '"' || strings.HasPrefix(rest, `"`))

@@ -7,7 +7,7 @@ import (
 	"gateway/feel/strict"
 )
 
-// mendRows are texts without a reading, what helps, and what the text is once that is done. Worked out by hand.
+// mendRows are texts without a reading, the hint, and the mended text. Worked out by hand.
 var mendRows = []struct {
 	kind                strict.Kind
 	text, hint, applied string
@@ -60,7 +60,7 @@ var mendRows = []struct {
 	{strict.Expression, "a and <", "", ""},
 }
 
-// TestHintsThatMend holds each hint against the one that is due, and reads what it leads to.
+// TestHintsThatMend compares each hint with the expected one, and reads the mended text.
 func TestHintsThatMend(t *testing.T) {
 	for _, row := range mendRows {
 		stop := strict.StopOf(row.kind, row.text)
@@ -76,7 +76,7 @@ func TestHintsThatMend(t *testing.T) {
 	}
 }
 
-// TestMendsAreRead applies what is found for each text that random changes make of lawful ones: it always has a reading.
+// TestMendsAreRead applies the mends found for random changes of valid texts: the result always has a reading.
 func TestMendsAreRead(t *testing.T) {
 	words := []string{"a", "5", "not", "<", "=", ">", "and", "or", "%", "mod", "is", "null", "|", "&", "(", ")", "[", "]", ",", "..", "to", "in", "between", `"x"`}
 	for _, kind := range []strict.Kind{strict.Expression, strict.UnaryTests} {

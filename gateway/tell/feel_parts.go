@@ -7,9 +7,9 @@ import (
 	"gateway/feel/strict"
 )
 
-// A cut is a text that is parted where its reading stops.
+// A cut is a text, split where its reading stops.
 type cut struct {
-	// before is what comes before, without the blanks at its end, and rest is what comes then.
+	// before has no blanks at its end; rest begins at the stop.
 	before, rest string
 }
 
@@ -21,7 +21,7 @@ func cutAt(text string, at int) cut {
 	return cut{text[:end], text[at:]}
 }
 
-// last is the last byte before, 0 where there is none.
+// last returns the last byte of before, or 0.
 func (c cut) last() byte {
 	if c.before == "" {
 		return 0
@@ -29,7 +29,7 @@ func (c cut) last() byte {
 	return c.before[len(c.before)-1]
 }
 
-// at is a byte of the rest, 0 where there is none.
+// at returns a byte of rest, or 0.
 func (c cut) at(index int) byte {
 	if index < len(c.rest) {
 		return c.rest[index]
@@ -41,7 +41,7 @@ func (c cut) hasDigit(index int) bool { return strict.IsDigit(c.at(index)) }
 
 func (c cut) endsWithDigit() bool { return strict.IsDigit(c.last()) }
 
-// endsWithValue tells whether what comes before ends as a value may.
+// endsWithValue reports whether before ends as a value may.
 func (c cut) endsWithValue() bool {
 	switch last := c.last(); last {
 	case '"', ')', ']':
@@ -51,7 +51,7 @@ func (c cut) endsWithValue() bool {
 	}
 }
 
-// isParted tells whether a number goes on behind a comma, a blank or "_" with its last three digits.
+// isParted reports whether a number continues after a comma, a blank or "_" with its last three digits.
 func (c cut) isParted() bool {
 	mark := 0
 	if first := c.at(0); first == ',' || first == '_' {
@@ -61,13 +61,13 @@ func (c cut) isParted() bool {
 	return c.endsWithDigit() && hasThree && !strict.IsWordByte(c.at(mark+3))
 }
 
-// endsWithPoint tells whether a digit and a point come before.
+// endsWithPoint reports whether before ends with a digit and a point.
 func (c cut) endsWithPoint() bool {
 	count := len(c.before)
 	return count > 1 && c.before[count-1] == '.' && strict.IsDigit(c.before[count-2])
 }
 
-// isDecimal tells whether a number has a fraction or is a percentage.
+// isDecimal reports whether a number has a fraction or is a percentage.
 func (c cut) isDecimal() bool {
 	if c.endsWithPoint() && c.hasDigit(0) {
 		return true
@@ -81,7 +81,7 @@ func (c cut) isDecimal() bool {
 	return c.at(0) == '%'
 }
 
-// isDay tells whether a number goes on as a day does: 31.1.2026, 1/31/2026.
+// isDay reports whether a number continues as a date: 31.1.2026, 1/31/2026.
 func (c cut) isDay() bool {
 	mark := byte('/')
 	if c.endsWithPoint() {
@@ -102,7 +102,7 @@ func (c cut) isDay() bool {
 	return c.endsWithDigit() && c.at(0) == '/' && marks == 2
 }
 
-// lastWord is the word at the end of what comes before.
+// lastWord returns the word at the end of before.
 func (c cut) lastWord() string {
 	begin := len(c.before)
 	for begin > 0 && strict.IsWordByte(c.before[begin-1]) {
@@ -111,7 +111,7 @@ func (c cut) lastWord() string {
 	return c.before[begin:]
 }
 
-// word is the word at the start of a text.
+// word returns the word at the start of a text.
 func word(text string) string {
 	end := 0
 	for end < len(text) && strict.IsWordByte(text[end]) {
@@ -120,10 +120,10 @@ func word(text string) string {
 	return text[:end]
 }
 
-// keywords are those of FEEL.
+// keywords are FEEL's keywords.
 var keywords = []string{"if", "then", "else", "and", "or", "not", "between", "null", "true", "false"}
 
-// inSmall is the one of these words that a word is in other letters; empty where it is none, or is that one itself.
+// inSmall returns the word that matches in other letter case; "" if none does, or if word is one itself.
 func inSmall(words []string, word string) string {
 	for _, known := range words {
 		if strings.EqualFold(known, word) && word != known && len(word) == len(known) {
@@ -133,7 +133,7 @@ func inSmall(words []string, word string) string {
 	return ""
 }
 
-// printed is what helps where a character comes from print: another quote, dash or sign, or a letter of no name.
+// printed returns a hint about a character from print: another quote, dash or sign, or a letter that names can't have.
 func printed(rest string) string {
 	character, _ := utf8.DecodeRuneInString(rest)
 	in := func(low, high rune) bool { return low <= character && character <= high }

@@ -8,19 +8,19 @@ import (
 	"gateway/model"
 )
 
-// A file is the text of a model, with its parts by their places.
+// A file is the text of a model, with its parts by place.
 type file struct {
 	doc *lines.Document
-	// root is the model: what is under the key "model", or the whole value.
+	// root is the model: the value under the key "model", or the whole value.
 	root lines.Node
-	// model is the same as Go values; nil where it has not the form of a model.
+	// model is the same as Go values; nil if it doesn't have the form of a model.
 	model *model.Model
-	// origins are those of CheckOptions, isSpread says that they are of several files.
+	// origins is that of CheckOptions. isSpread means that they are in several files.
 	origins  map[string]Spot
 	isSpread bool
 }
 
-// newFile reads a text; nil where it is no JSON.
+// newFile reads a text; nil if it is not JSON.
 func newFile(text []byte) *file {
 	doc := lines.NewDocument(text)
 	if doc == nil {
@@ -34,7 +34,7 @@ func newFile(text []byte) *file {
 	return f
 }
 
-// part is what a place leads to.
+// part returns what a place leads to.
 func (f *file) part(place Place) (lines.Node, bool) {
 	part, ok := f.root, true
 	for _, step := range place {
@@ -52,7 +52,7 @@ func (f *file) step(part lines.Node, step Step) (lines.Node, bool) {
 	return f.doc.Item(part, step.Index)
 }
 
-// text is the text at a place; false where none is there.
+// text returns the text at a place; false if there is none.
 func (f *file) text(place Place) (string, bool) {
 	part, ok := f.part(place)
 	if !ok {
@@ -61,8 +61,8 @@ func (f *file) text(place Place) (string, bool) {
 	return f.doc.Text(part)
 }
 
-// position is where a place begins; where its last steps lead to nothing, what the others lead to. In an imported model it is
-// where the nearest part around it begins of which that is known.
+// position returns where a place begins. If its last steps lead nowhere, the steps before them count. In an imported model it
+// is the start of the nearest enclosing part with a known origin.
 func (f *file) position(place Place) Spot {
 	if f.origins != nil {
 		return f.origin(place)
@@ -78,7 +78,7 @@ func (f *file) position(place Place) Spot {
 	return f.spot(part)
 }
 
-// spot is where a part of the text begins.
+// spot returns where a part of the text begins.
 func (f *file) spot(part lines.Node) Spot {
 	line, column := f.doc.Position(part)
 	return Spot{Line: line, Column: column}
@@ -93,7 +93,7 @@ func (f *file) origin(place Place) Spot {
 	return f.origins[""]
 }
 
-// whole is the file as a whole.
+// whole returns the spot of the whole file.
 func (f *file) whole() Spot { return Spot{File: f.origins[""].File} }
 
 // isSpread reports whether spots are in several files.
@@ -107,7 +107,7 @@ func isSpread(origins map[string]Spot) bool {
 	return false
 }
 
-// spotWords are a spot as people read it.
+// spotWords returns a spot for people.
 func (f *file) spotWords(spot Spot) string {
 	words := fmt.Sprintf("line %d, column %d: ", spot.Line, spot.Column)
 	if f.isSpread {
@@ -116,26 +116,25 @@ func (f *file) spotWords(spot Spot) string {
 	return words
 }
 
-// at is where a place begins, as people read it.
+// at returns where a place begins, for people.
 func (f *file) at(place Place) string {
 	return f.spotWords(f.position(place))
 }
 
-// A way goes along a place, and says what it passes.
+// A way follows a place and words what it passes.
 type way struct {
 	file  *file
 	said  []string
 	part  lines.Node
 	isAny bool
-	// table is the table that it went through last.
+	// table is the last table passed.
 	table    lines.Node
 	hasTable bool
 	key      string
 }
 
-// words are a place as people read it, as `decisions[3] "discount", rule 9, input 3 "age"`. Decisions, services and inputs of the
-// model have their index in brackets, as in JSON: the first is 0. Parts of a decision or a service are numbered from 1. The whole
-// model is the empty text.
+// words returns a place for people, such as `decisions[3] "discount", rule 9, input 3 "age"`. Decisions, services and inputs of
+// the model have JSON's index in brackets, from 0. Parts of a decision or service are counted from 1. The whole model is "".
 func (f *file) words(place Place) string {
 	w := way{file: f, part: f.root, isAny: true}
 	for at, step := range place {
@@ -168,7 +167,7 @@ func (w *way) goTo(key string, isLast bool) {
 
 func (w *way) say(text string) { w.said = append(w.said, text) }
 
-// named is the name of a part behind a blank and in quotes, where it has one: the text itself, or what is under "name".
+// named returns a part's name after a blank and in quotes, if it has one: the text itself, or the value under "name".
 func (w *way) named(part lines.Node, is bool) string {
 	if !is {
 		return ""
@@ -182,7 +181,7 @@ func (w *way) named(part lines.Node, is bool) string {
 	return ""
 }
 
-// columnOf names the column of the table under a key.
+// columnOf names the table column under a key.
 func (w *way) columnOf(key string, index int) string {
 	if !w.hasTable {
 		return ""
@@ -192,13 +191,13 @@ func (w *way) columnOf(key string, index int) string {
 	return w.named(column, ok)
 }
 
-// counted are the elements that are numbered from 1 and have a name of their own.
+// counted are the elements that are counted from 1 and have a name.
 var counted = map[string]string{
 	"inputs": "input", "outputs": "output", "needs": "need", "encapsulated": "encapsulated", "inputDecisions": "input decision",
 	"inputData": "input data",
 }
 
-// plain are those that are numbered alone.
+// plain are the elements that only have a number.
 var plain = map[string]string{"rules": "rule", "values": "value", "list": "member"}
 
 func (w *way) goToElement(index int) {

@@ -7,7 +7,7 @@ import (
 	"gateway/lines"
 )
 
-// A foreign is what a text is that is no JSON from its first bytes on.
+// A foreign is what a text is that is not JSON from its first bytes on.
 type foreign uint8
 
 const (
@@ -18,7 +18,7 @@ const (
 	foreignBytes
 )
 
-// hint is what helps; empty of a text that isn't foreign.
+// hint returns a hint, or "" if the text isn't foreign.
 func (f foreign) hint() string {
 	switch f {
 	case foreignXML:
@@ -33,7 +33,7 @@ func (f foreign) hint() string {
 	return ""
 }
 
-// foreignOf tells what a text is, by its first bytes, or by bytes that are no UTF-8.
+// foreignOf identifies a text by its first bytes, or by bytes that are not UTF-8.
 func foreignOf(text []byte) foreign {
 	if bytes.HasPrefix(text, []byte("\xFF\xFE")) || bytes.HasPrefix(text, []byte("\xFE\xFF")) {
 		return ofPairs(text[2:])
@@ -53,7 +53,7 @@ func foreignOf(text []byte) foreign {
 	return notForeign
 }
 
-// firstPair is the first character of a text of UTF-16, where it is one of ASCII; else 0.
+// firstPair returns the first character of a UTF-16 text if it is ASCII, else 0.
 func firstPair(text []byte) byte {
 	switch {
 	case len(text) < 2:
@@ -73,13 +73,13 @@ func ofPairs(text []byte) foreign {
 	return foreignUTF16
 }
 
-// A stop is where a text stops to be JSON, and what it is if it is foreign.
+// A stop is where a text stops being JSON, and what it is if it is foreign.
 type stop struct {
 	*lines.Stop
 	foreign foreign
 }
 
-// stopOf is nil of a text that is JSON.
+// stopOf returns nil if the text is JSON.
 func stopOf(text []byte) *stop {
 	at := lines.StopOf(text)
 	if at == nil {
@@ -87,7 +87,7 @@ func stopOf(text []byte) *stop {
 	}
 	it := &stop{at, foreignOf(text)}
 	if at.Due == lines.NoUTF8 && it.foreign != foreignBytes {
-		// Its first bytes say what it is.
+		// Its first bytes identify it.
 		due := *at
 		due.Due = lines.DueValue
 		it.Stop = &due

@@ -5,7 +5,7 @@ import (
 	"strings"
 )
 
-// GitHub's escapes: those of a message, and those of a property of it.
+// GitHub's escapes: for messages, and for their properties.
 var (
 	inMessage  = strings.NewReplacer("%", "%25", "\r", "%0D", "\n", "%0A")
 	inProperty = strings.NewReplacer("%", "%25", "\r", "%0D", "\n", "%0A", ":", "%3A", ",", "%2C")
@@ -13,7 +13,7 @@ var (
 
 var githubCommands = map[Level]string{Error: "error", Warning: "warning", Note: "notice"}
 
-// annotations are notices as commands of GitHub's workflows, a line each.
+// annotations writes notices as commands of GitHub's workflows, one a line.
 func annotations(notices []Notice) []byte {
 	var text strings.Builder
 	for _, n := range notices {

@@ -6,26 +6,26 @@ import (
 	"gateway/model"
 )
 
-// A set are texts, each once.
+// A set holds texts.
 type set map[string]bool
 
-// A gift is what a decision may give: one value, or a context of entries. Of a value that is not known to be one of some literals
-// the set is nil.
+// A gift is what a decision may give: one value, or a context of entries. The set is nil for a value that is not known to be
+// one of some literals.
 type gift struct {
 	value   set
 	entries map[string]set
-	// isNumber says that it is a number, or null.
+	// isNumber means a number, or null.
 	isNumber bool
 }
 
-// given is what the decisions may give that others need, as far as it is known. No request brings their values.
+// A given holds what needed decisions may give, as far as it is known. No request brings their values.
 type given struct {
 	decisions map[string]*gift
-	// numbers keeps of which values it was seen whether they may be numbers.
+	// numbers caches which values may be numbers.
 	numbers map[valueName]bool
-	// texts keeps the literals that are texts, of values for which a near one was sought.
+	// texts caches the literals of a value that are texts.
 	texts map[valueName][]string
-	// entries keeps the names of the entries of decisions for which a near one was sought.
+	// entries caches the names of a decision's entries.
 	entries map[string][]string
 }
 
@@ -88,7 +88,7 @@ func giftOfTable(table *model.Table) *gift {
 	return &gift{entries: entries}
 }
 
-// columnLiterals are the literals that an output column gives; nil where it gives something else too.
+// columnLiterals returns the literals that an output column gives; nil if it gives anything else too.
 func columnLiterals(table *model.Table, column int) set {
 	literals := set{}
 	add := func(text string) bool {
@@ -109,7 +109,7 @@ func columnLiterals(table *model.Table, column int) set {
 	return literals
 }
 
-// literals are those that a value may be; nil where that is not known.
+// literals returns the literals that a value may be; nil if not known.
 func (g *given) literals(of valueName) set {
 	gives := g.decisions[of.name]
 	switch {
@@ -121,7 +121,7 @@ func (g *given) literals(of valueName) set {
 	return gives.entries[of.entry]
 }
 
-// lacks tells whether a decision never gives a context with this entry.
+// lacks reports whether a decision never gives a context with this entry.
 func (g *given) lacks(decision, entry string) bool {
 	gives := g.decisions[decision]
 	if gives == nil || gives.entries == nil {
@@ -131,7 +131,7 @@ func (g *given) lacks(decision, entry string) bool {
 	return !has
 }
 
-// near is the first entry of what a decision gives, by its bytes, whose name is near.
+// near returns the first similar entry of what a decision gives, by bytes.
 func (g *given) near(decision, entry string) string {
 	names, isKept := g.entries[decision]
 	if !isKept {
@@ -149,7 +149,7 @@ func (g *given) near(decision, entry string) string {
 	return nearest
 }
 
-// nearLiteral is the first of the literals that a value may be that differs from a text by one letter, or in capital letters.
+// nearLiteral returns the first literal of a value that differs from a text by one letter or in letter case.
 func (g *given) nearLiteral(of valueName, literal string) string {
 	if !strings.HasPrefix(literal, `"`) {
 		return ""
@@ -176,7 +176,7 @@ func (g *given) nearLiteral(of valueName, literal string) string {
 	return nearest
 }
 
-// equalASCII tells whether two texts are the same but for capital letters of ASCII.
+// equalASCII reports whether two texts are equal but for ASCII letter case.
 func equalASCII(one, other string) bool {
 	if len(one) != len(other) {
 		return false

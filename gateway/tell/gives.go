@@ -9,22 +9,49 @@ import (
 	"strings"
 )
 
-// outcomes are what a service or a decision can give: values of these kinds, numbers from the first to the second, and the limit.
+// An outcomes holds what a service or decision can give: values of these kinds, numbers from the first to the second, and the
+// limit.
 type outcomes struct {
 	Null     bool      `json:"null"`
 	True     bool      `json:"true"`
 	False    bool      `json:"false"`
 	Numbers  *[2]int64 `json:"numbers"`
-	Texts    bool      `json:"texts"`
+	Texts    texts     `json:"texts"`
 	Lists    bool      `json:"lists"`
 	Contexts bool      `json:"contexts"`
 	Limit    bool      `json:"limit"`
 }
 
-// noEnd is from which number on an end of an interval is left out in words: what is past it is next to the end of the range.
+// texts are any text, or a few.
+type texts struct {
+	any bool
+	few []string
+}
+
+// UnmarshalJSON reads whether there is a text, or a list of those that there are.
+func (t *texts) UnmarshalJSON(text []byte) error {
+	*t = texts{}
+	if bytes.HasPrefix(text, []byte("[")) {
+		return json.Unmarshal(text, &t.few)
+	}
+	return json.Unmarshal(text, &t.any)
+}
+
+// words returns the texts as expressions have them.
+func (t texts) words() (words []string) {
+	if t.any {
+		return []string{"text"}
+	}
+	for _, text := range t.few {
+		words = append(words, quoted(text))
+	}
+	return words
+}
+
+// noEnd is where an interval's end is left out in words, as it is next to the end of the range.
 const noEnd = 9_000_000_000_000_000_000
 
-// numberWords are the numbers of an interval.
+// numberWords words an interval of numbers.
 func numberWords(low, high int64) string {
 	switch hasLow, hasHigh := low > -noEnd, high < noEnd; {
 	case low == high:
@@ -39,15 +66,16 @@ func numberWords(low, high int64) string {
 	return "a number"
 }
 
-// kinds are the values in words, without null.
+// kinds returns the values in words, without null.
 func (o outcomes) kinds() (words []string) {
 	if o.Numbers != nil {
 		words = append(words, numberWords(o.Numbers[0], o.Numbers[1]))
 	}
+	words = append(words, o.Texts.words()...)
 	for _, kind := range []struct {
 		is   bool
 		word string
-	}{{o.Texts, "text"}, {o.True, "true"}, {o.False, "false"}, {o.Lists, "a list"}, {o.Contexts, "a context"}} {
+	}{{o.True, "true"}, {o.False, "false"}, {o.Lists, "a list"}, {o.Contexts, "a context"}} {
 		if kind.is {
 			words = append(words, kind.word)
 		}
@@ -55,13 +83,11 @@ func (o outcomes) kinds() (words []string) {
 	return words
 }
 
-// anyKinds is how many words kinds has where it has all.
-const anyKinds = 6
-
-// words are what can be given, as "500 to 249250" or "text or null".
+// words says what can be given, such as "500 to 249250" or "text or null".
 func (o outcomes) words() string {
 	words := o.kinds()
-	switch isAny := len(words) == anyKinds && words[0] == "a number"; {
+	isAny := o.Texts.any && o.True && o.False && o.Lists && o.Contexts && words[0] == "a number"
+	switch {
 	case isAny && o.Null:
 		words = []string{"any value"}
 	case isAny && o.Limit:
@@ -90,19 +116,19 @@ type givenFact struct {
 	services []string
 }
 
-// givesFacts are what the services of a model and their decisions can give, by their names.
+// A givesFacts holds what services and decisions can give, by name.
 type givesFacts struct {
-	// lines are those of the engine.
+	// lines holds the engine's lines.
 	lines     [][]byte
 	services  map[string]*wordedOutcomes
 	decisions map[string][]*givenFact
-	// known has what is under the key gives in the lines: many have the same.
+	// known caches what is under the key gives, since many lines have the same.
 	known map[string]*wordedOutcomes
-	// more is how many further services the engine did not look at.
+	// more is how many services the engine did not look at.
 	more int
 }
 
-// wordedOutcomes are outcomes with their words.
+// A wordedOutcomes is an outcomes with its words.
 type wordedOutcomes struct {
 	outcomes
 	said string
@@ -119,7 +145,7 @@ var (
 	errNoGives           = errors.New("a line doesn't say what can be given")
 )
 
-// take reads a line of what a service or a decision can give. Names are words, so nothing in them is escaped.
+// take reads a line about a service or decision. Names are words, so nothing in them is escaped.
 func (g *givesFacts) take(line []byte) error {
 	if bytes.HasPrefix(line, noServiceKey) {
 		var more factPlace
@@ -172,7 +198,7 @@ func (g *givesFacts) outcomes(text []byte) (*wordedOutcomes, error) {
 	return it, nil
 }
 
-// decision is a decision of this kind with what it can give.
+// decision returns a decision of this kind with what it can give.
 func (g *givesFacts) decision(name, kind string) string {
 	switch {
 	case g == nil:
@@ -185,7 +211,7 @@ func (g *givesFacts) decision(name, kind string) string {
 	return g.words(name) + " (" + kind + ")"
 }
 
-// words are what a decision can give, and in which services where that differs.
+// words says what a decision can give, and in which services if that differs.
 func (g *givesFacts) words(name string) string {
 	all := g.decisions[name]
 	if len(all) == 1 {
@@ -198,7 +224,7 @@ func (g *givesFacts) words(name string) string {
 	return strings.Join(words, "; ")
 }
 
-// GivesWords are what decisions can give in words, by their names: of the engine's lines of services and decisions.
+// GivesWords words what decisions can give, by name, from the engine's lines about services and decisions.
 func GivesWords(lines []json.RawMessage) (map[string]string, error) {
 	facts, words := newGivesFacts(), map[string]string{}
 	for _, line := range lines {
@@ -212,7 +238,7 @@ func GivesWords(lines []json.RawMessage) (map[string]string, error) {
 	return words, nil
 }
 
-// service is what a service can give, behind its parameters.
+// service returns what a service can give, after its parameters.
 func (g *givesFacts) service(name string) string {
 	if g == nil {
 		return ""
@@ -226,14 +252,13 @@ func (g *givesFacts) service(name string) string {
 	return ""
 }
 
-// givesNull is the kind of a notice of a service that can give null or break a limit, givesMore that of services not looked at.
+// givesNull is the kind of a service that can give null or break a limit, givesMore that of services not looked at.
 const (
 	givesNull = "gives-null"
 	givesMore = "gives-more"
 )
 
-// gives tells what the services and decisions can give as the engine wrote it; as notices, the services that can give null or break
-// a limit.
+// gives reports what services and decisions can give; as notices, only the services that can give null or break a limit.
 func (r *report) gives() {
 	if r.facts.gives == nil {
 		return

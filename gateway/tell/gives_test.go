@@ -18,19 +18,27 @@ const (
 
 func numbersFrom(low, high int64) *[2]int64 { return &[2]int64{low, high} }
 
-// TestOutcomesInWords are worked out by hand.
+// TestOutcomesInWords has rows worked out by hand.
 func TestOutcomesInWords(t *testing.T) {
-	all := outcomes{true, true, true, numbersFrom(lowest, highest), true, true, true, false}
+	anyText, oneText := texts{any: true}, texts{few: []string{"low"}}
+	all := outcomes{true, true, true, numbersFrom(lowest, highest), anyText, true, true, false}
 	given, limit, both := all, all, all
 	given.Null, limit.Limit, both.Null, both.Limit = false, true, false, true
 	less := all
 	less.Numbers = numbersFrom(1, highest)
+	few := all
+	few.Texts = oneText
 	for due, it := range map[string]outcomes{
-		"nothing":                      {},
-		"null":                         {Null: true},
-		"limit":                        {Limit: true},
-		"null or limit":                {Null: true, Limit: true},
-		"text or null":                 {Texts: true, Null: true},
+		"nothing":                   {},
+		"null":                      {Null: true},
+		"limit":                     {Limit: true},
+		"null or limit":             {Null: true, Limit: true},
+		"text or null":              {Texts: anyText, Null: true},
+		`"low"`:                     {Texts: oneText},
+		`"low" or null`:             {Texts: oneText, Null: true},
+		`"low", "middle" or "high"`: {Texts: texts{few: []string{"low", "middle", "high"}}},
+		`1 to 2, "", "a \"b\" or c", true or limit`:               {Numbers: numbersFrom(1, 2), Texts: texts{few: []string{"", `a "b" or c`}}, True: true, Limit: true},
+		`a number, "low", true, false, a list, a context or null`: few,
 		"500 to 249250":                {Numbers: numbersFrom(500, 249250)},
 		"-5 to -1 or null":             {Numbers: numbersFrom(-5, -1), Null: true},
 		"7":                            {Numbers: numbersFrom(7, 7)},
@@ -41,7 +49,7 @@ func TestOutcomesInWords(t *testing.T) {
 		"9223372036854775807":          {Numbers: numbersFrom(highest, highest)},
 		"true or false":                {True: true, False: true},
 		"true, false or null":          {True: true, False: true, Null: true},
-		"1 to 2, text or a list":       {Numbers: numbersFrom(1, 2), Texts: true, Lists: true},
+		"1 to 2, text or a list":       {Numbers: numbersFrom(1, 2), Texts: anyText, Lists: true},
 		"a context":                    {Contexts: true},
 		"any value":                    all,
 		"any value or limit":           limit,
@@ -64,15 +72,15 @@ const (
 		`{"name":"Loan","outputs":["fee"],"encapsulated":["risk"],"inputDecisions":[],"inputData":["age","kind"]},` +
 		`{"name":"Risk","outputs":["risk"],"encapsulated":[],"inputDecisions":[],"inputData":["kind"]},` +
 		`{"name":"Fee","outputs":["fee"],"encapsulated":[],"inputDecisions":["risk"],"inputData":["age"]}]},"domains":{"age":"[0..120]"}}`
-	loanLawful = `{"lawful":true,"inputs":["age","kind"],"decisions":[{"name":"risk","kind":"expression"},{"name":"fee","kind":"expression"},` +
+	loanValid = `{"lawful":true,"inputs":["age","kind"],"decisions":[{"name":"risk","kind":"expression"},{"name":"fee","kind":"expression"},` +
 		`{"name":"idle","kind":"expression"}],"services":[{"name":"Loan","parameters":["age","kind"]},{"name":"Risk","parameters":["kind"]},` +
 		`{"name":"Fee","parameters":["risk","age"]}]}`
-	text1 = `{"null":false,"true":false,"false":false,"numbers":null,"texts":true,"lists":false,"contexts":false,"limit":false}`
+	text1 = `{"null":false,"true":false,"false":false,"numbers":null,"texts":["low","middle","high"],"lists":false,"contexts":false,"limit":false}`
 	null1 = `{"null":true,"true":false,"false":false,"numbers":[1,121],"texts":false,"lists":false,"contexts":false,"limit":false}`
 	fee1  = `{"null":false,"true":false,"false":false,"numbers":[1,121],"texts":false,"lists":false,"contexts":false,"limit":false}`
 )
 
-// loanGives are the lines of what the services of the model can give.
+// loanGives are the lines about what the model's services can give.
 var loanGives = []string{
 	`{"service":"Loan","gives":` + null1 + `}`, `{"decision":"risk","service":"Loan","gives":` + text1 + `}`,
 	`{"decision":"fee","service":"Loan","gives":` + null1 + `}`, `{"service":"Risk","gives":` + text1 + `}`,
@@ -91,18 +99,18 @@ func checked(t *testing.T, options CheckOptions, status int, input string, lines
 	return out.String()
 }
 
-// TestGives words what each decision can give beside it, and the services after.
+// TestGives words what each decision can give, and the services after.
 func TestGives(t *testing.T) {
-	lines := append([]string{loanLawful}, loanGives...)
+	lines := append([]string{loanValid}, loanGives...)
 	const due = `lawful
 inputs: age, kind
 decisions:
-  risk: text (expression)
+  risk: "low", "middle" or "high" (expression)
   fee: 1 to 121 or null in Loan; 1 to 121 in Fee (expression)
   idle: not evaluated (expression)
 services:
   Loan(age, kind): 1 to 121 or null
-  Risk(kind): text
+  Risk(kind): "low", "middle" or "high"
   Fee(risk, age): 1 to 121
 `
 	if got := checked(t, CheckOptions{Gives: true}, 0, loan, lines...); !strings.HasPrefix(got, due) {
@@ -112,14 +120,14 @@ services:
 	if due := strings.Join(lines, "\n") + "\n"; !strings.HasPrefix(got, due) {
 		t.Errorf("%s, and %s is due", got, due)
 	}
-	if got := checked(t, CheckOptions{}, 0, loan, loanLawful); !strings.Contains(got, "  risk: expression\n") || !strings.Contains(got, "  Risk(kind)\n") {
+	if got := checked(t, CheckOptions{}, 0, loan, loanValid); !strings.Contains(got, "  risk: expression\n") || !strings.Contains(got, "  Risk(kind)\n") {
 		t.Errorf("not asked: %s", got)
 	}
 }
 
-// TestGivesAsNotices has a notice of each service that can give null or break a limit: an error where --strict-null refuses it.
+// TestGivesAsNotices has a notice for each service that can give null or break a limit, an error under --strict-null.
 func TestGivesAsNotices(t *testing.T) {
-	lines := append([]string{loanLawful}, loanGives...)
+	lines := append([]string{loanValid}, loanGives...)
 	const place = ` title=gives-null::line 1, column 201: services[0] "Loan": can give 1 to 121 or null` + "\n"
 	for _, it := range []struct {
 		options CheckOptions
@@ -134,22 +142,24 @@ func TestGivesAsNotices(t *testing.T) {
 	}
 }
 
-// TestGivesWords words what decisions can give, by their names.
+// TestGivesWords words what decisions can give, by name.
 func TestGivesWords(t *testing.T) {
 	var lines []json.RawMessage
 	for _, line := range loanGives {
 		lines = append(lines, json.RawMessage(line))
 	}
 	got, err := GivesWords(lines)
-	if due := map[string]string{"risk": "text", "fee": "1 to 121 or null in Loan; 1 to 121 in Fee"}; err != nil || !reflect.DeepEqual(got, due) {
+	if due := map[string]string{"risk": `"low", "middle" or "high"`, "fee": "1 to 121 or null in Loan; 1 to 121 in Fee"}; err != nil || !reflect.DeepEqual(got, due) {
 		t.Errorf("%v: %q", err, got)
 	}
-	if _, err := GivesWords([]json.RawMessage{json.RawMessage(`{"service":"s"}`)}); err == nil {
-		t.Error("a line that says nothing is taken")
+	for _, line := range []string{`{"service":"s"}`, `{"service":"s","gives":{"texts":[1]}}`, `{"service":"s","gives":{"texts":"a"}}`} {
+		if _, err := GivesWords([]json.RawMessage{json.RawMessage(line)}); err == nil {
+			t.Errorf("%s is taken", line)
+		}
 	}
 }
 
-// TestStrictNullOfTables leaves what is found of tables a warning where only --strict-null refuses the model.
+// TestStrictNullOfTables keeps findings about tables as warnings if only --strict-null refuses the model.
 func TestStrictNullOfTables(t *testing.T) {
 	const model = `{"inputs":["a"],"services":[],"decisions":[{"name":"d","needs":["a"],"expr":{"table":{"hit":"U","inputs":["a"],` +
 		`"outputs":[{"name":"r"}],"rules":[{"when":["> 5"],"then":["1"]},{"when":["5..3"],"then":["1"]}]}}}]}`
@@ -170,7 +180,7 @@ func TestStrictNullOfTables(t *testing.T) {
 	}
 }
 
-// TestDomains words the places of what is declared beside a model and can't be taken.
+// TestDomains words the places of bad declarations next to a model.
 func TestDomains(t *testing.T) {
 	const model = `{"inputs":["age","kind"],"decisions":[{"name":"d","needs":[],"expr":"1"}],"services":[]}`
 	for _, it := range []struct{ domains, pointer, due string }{
@@ -215,7 +225,7 @@ func TestDomains(t *testing.T) {
 	}
 }
 
-// TestManyGives takes the lines of many services of many decisions, each of which gives something else.
+// TestManyGives reads lines about many services of many decisions, each with something else to give.
 func TestManyGives(t *testing.T) {
 	const services, decisions = 100, 1000
 	facts := newGivesFacts()

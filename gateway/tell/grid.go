@@ -6,11 +6,11 @@ import (
 )
 
 const (
-	// widest is how many letters a cell of a table is wide, gap how many blanks come between two.
+	// widest limits the letters in a table's cell, gap is the number of blanks between two cells.
 	widest, gap = 40, 2
 )
 
-// gridCell is a cell behind what comes before it, cut where it is too wide.
+// gridCell returns a cell after what is before it, cut if it is too wide.
 func gridCell(before, source string) string {
 	var to page
 	to.WriteString(before)
@@ -23,7 +23,7 @@ func gridCell(before, source string) string {
 	return to.String()
 }
 
-// widen makes the columns as wide as the cells of a row.
+// widen makes the columns as wide as a row's cells.
 func widen(widths []int, row []string) []int {
 	for at, cell := range row {
 		width := utf8.RuneCountInString(cell)
@@ -38,7 +38,7 @@ func widen(widths []int, row []string) []int {
 
 func addBlanks(to *page, count int) { to.WriteString(strings.Repeat(" ", count)) }
 
-// addRow adds the cells of a row, and gives how many blanks are due behind the last.
+// addRow adds a row's cells, and returns how many blanks are due after the last.
 func addRow(to *page, row []string, widths []int, indent int) int {
 	blanks := indent
 	for at, cell := range row {

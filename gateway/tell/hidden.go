@@ -10,13 +10,13 @@ import (
 
 const hiddenLetter = "hidden letter"
 
-// A hiddenText is a text of the model with letters that turn the direction of what is seen, or that are not seen themselves.
+// A hiddenText is a text of the model with letters that can't be seen or that change the direction of text.
 type hiddenText struct {
 	place   Place
 	letters []rune
 }
 
-// hiddenLetters tells the texts that show people something else than they are. Ends of lines and tabulators are seen.
+// hiddenLetters reports texts that look different from what they are. Line ends and tabs can be seen.
 func (r *report) hiddenLetters() {
 	s := hiddenTexts{doc: r.file.doc}
 	s.look(r.file.root)
@@ -30,7 +30,7 @@ func (r *report) hiddenLetters() {
 	r.moreWarnings(hiddenLetter, s.count-len(s.found))
 }
 
-// A hiddenTexts is a search for such texts.
+// A hiddenTexts searches for such texts.
 type hiddenTexts struct {
 	doc   *lines.Document
 	place Place
@@ -38,7 +38,7 @@ type hiddenTexts struct {
 	count int
 }
 
-// look looks at a value, and at its parts in their order.
+// look looks at a value and its parts, in order.
 func (s *hiddenTexts) look(part lines.Node) {
 	switch s.doc.Kind(part) {
 	case '"':
@@ -69,7 +69,7 @@ func (s *hiddenTexts) within(step Step, part lines.Node) {
 	s.place = s.place[:len(s.place)-1]
 }
 
-// hiddenIn are the hidden letters of a text, each once, in the order in which they come.
+// hiddenIn returns the hidden letters of a text, each once, in order.
 func hiddenIn(text string) []rune {
 	var letters []rune
 	for _, letter := range text {

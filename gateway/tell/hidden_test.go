@@ -5,7 +5,7 @@ import (
 	"testing"
 )
 
-// TestWarningsOfHiddenLetters has texts in the place of one of a sound model, and what is told of them.
+// TestWarningsOfHiddenLetters puts texts into a sound model, and checks the warnings.
 func TestWarningsOfHiddenLetters(t *testing.T) {
 	for text, due := range map[string]string{
 		`\"plain: äöü 中文, an end\\n of a line\"`: "",
@@ -18,10 +18,10 @@ func TestWarningsOfHiddenLetters(t *testing.T) {
 			t.Fatalf("%s: it is no model", text)
 		}
 		r.hiddenLetters()
-		told := r.out.String()
-		isDue := strings.Contains(told, `"said":"`+due+`"`) && strings.Contains(told, `"pointer":"/decisions/2/expr/list/5"`)
-		if due == "" && told != "" || due != "" && (!isDue || strings.Count(told, "\n") != 1) {
-			t.Errorf("%s: %q, and %q is due", text, told, due)
+		reported := r.out.String()
+		isDue := strings.Contains(reported, `"said":"`+due+`"`) && strings.Contains(reported, `"pointer":"/decisions/2/expr/list/5"`)
+		if due == "" && reported != "" || due != "" && (!isDue || strings.Count(reported, "\n") != 1) {
+			t.Errorf("%s: %q, and %q is due", text, reported, due)
 		}
 	}
 }

@@ -8,12 +8,12 @@ import (
 	"gateway/model"
 )
 
-// kinds are kinds of values that the tests of a column ask for.
+// A kinds holds the kinds of values that a column's tests ask for.
 type kinds struct{ numbers, texts, truths, null, parted bool }
 
 var everyKind = kinds{true, true, true, true, true}
 
-// columnKinds are the kinds of the constants that the tests of a column compare with; every kind where there is none.
+// columnKinds returns the kinds of the constants in a column's tests, or every kind if there are none.
 func columnKinds(tests []strict.Tests) kinds {
 	var k kinds
 	for _, of := range tests {
@@ -50,7 +50,7 @@ func (k *kinds) see(test feel.Node) {
 	}
 }
 
-// isConstant tells whether an expression is a constant, or a number behind a minus.
+// isConstant reports whether an expression is a constant, or a number after a minus.
 func isConstant(node feel.Node) bool {
 	if negation, ok := node.(*feel.Negation); ok {
 		_, ok = negation.Operand.(*feel.Number)
@@ -60,7 +60,7 @@ func isConstant(node feel.Node) bool {
 	return ok
 }
 
-// areConstant tells whether all that an entry compares with is constant.
+// areConstant reports whether an entry compares with constants only.
 func areConstant(tests strict.Tests) bool {
 	for _, test := range tests.List {
 		switch of := test.(type) {
@@ -81,7 +81,7 @@ func areConstant(tests strict.Tests) bool {
 	return true
 }
 
-// kindsText are the kinds that are asked for in the columns that ask for anything, as "numbers, texts and null".
+// kindsText returns the kinds that the columns ask for, such as "numbers, texts and null".
 func kindsText(columns []kinds) string {
 	var all kinds
 	for _, k := range columns {
@@ -105,7 +105,7 @@ func kindsText(columns []kinds) string {
 	return strings.Join(words, "")
 }
 
-// testsOf are the input entries of a table, rule by rule.
+// testsOf returns a table's input entries, rule by rule.
 func testsOf(table *model.Table) [][]strict.Tests {
 	all := make([][]strict.Tests, len(table.Rules))
 	for at, rule := range table.Rules {
@@ -117,7 +117,7 @@ func testsOf(table *model.Table) [][]strict.Tests {
 	return all
 }
 
-// columnOf are the entries of one input.
+// columnOf returns the entries of one input.
 func columnOf(all [][]strict.Tests, at int) []strict.Tests {
 	var column []strict.Tests
 	for _, rule := range all {

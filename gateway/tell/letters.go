@@ -7,8 +7,7 @@ import (
 	"unicode/utf16"
 )
 
-// hidden are the letters that are written by their number in a text for people: control characters, what has no width, and what
-// turns the direction of a text.
+// hidden are the letters written by number in a text for people: control characters, zero width, and text direction.
 var hidden = &unicode.RangeTable{
 	R16: []unicode.Range16{
 		{0x0000, 0x001f, 1}, {0x007f, 0x009f, 1}, {0x00ad, 0x00ad, 1}, {0x034f, 0x034f, 1}, {0x061c, 0x061c, 1}, {0x115f, 0x1160, 1},
@@ -19,7 +18,7 @@ var hidden = &unicode.RangeTable{
 	LatinOffset: 3,
 }
 
-// addVisible adds a letter, one that is hidden by its number.
+// addVisible adds a letter, by number if it is hidden.
 func addVisible(to *page, letter rune) {
 	switch {
 	case letter >= ' ' && letter < 0x7f || !unicode.Is(hidden, letter):
@@ -32,7 +31,7 @@ func addVisible(to *page, letter rune) {
 	}
 }
 
-// visible is a text without hidden letters.
+// visible returns a text with its hidden letters written by number.
 func visible(text string) string {
 	var to page
 	for _, letter := range text {
@@ -41,7 +40,7 @@ func visible(text string) string {
 	return to.String()
 }
 
-// addSource adds the first letters of a text of FEEL on one line.
+// addSource adds the first letters of a FEEL text on one line.
 func addSource(to *page, source string, most int) {
 	for _, letter := range source {
 		if most == 0 {
@@ -63,16 +62,16 @@ func addSource(to *page, source string, most int) {
 	}
 }
 
-// nameBlank is a blank that looks like another one, which is written by its number in names.
+// nameBlank is the no-break space, written by number in names.
 const nameBlank = 0xa0
 
-// addQuotedName adds the first letters of a name as addQuoted does, in which each blank is a plain one.
+// addQuotedName adds the first letters of a name as addQuoted does; a visible blank is a plain one.
 func addQuotedName(to *page, inner string, most int) (count int) {
 	return addQuoted(to, strings.ReplaceAll(inner, string(rune(nameBlank)), fmt.Sprintf(`\u%04x`, nameBlank)), most)
 }
 
-// addQuoted adds the first letters of a JSON string in quotes, which is given without them, and gives how many letters it has. An
-// escape is one letter, and stays as it is.
+// addQuoted adds the first letters of a JSON string in quotes, and returns how many letters it has. inner has no quotes. An
+// escape is one letter, kept as it is.
 func addQuoted(to *page, inner string, most int) (count int) {
 	to.addByte('"')
 	isEscape, digits := false, 0

@@ -2,7 +2,7 @@ package tell
 
 import "testing"
 
-// TestHiddenLetters writes letters without width, and other blanks within names, by their numbers.
+// TestHiddenLetters writes zero-width letters, and other blanks in names, by number.
 func TestHiddenLetters(t *testing.T) {
 	for _, row := range []struct{ name, due string }{
 		{"plain", "plain"},

@@ -32,7 +32,7 @@ func kindOfValue(value strict.Value) literalKind {
 	return noKind
 }
 
-// jsonText is a value as JSON writes it.
+// jsonText returns a value as JSON.
 func jsonText(value strict.Value) string {
 	switch value := value.(type) {
 	case bool:
@@ -45,7 +45,7 @@ func jsonText(value strict.Value) string {
 	return "null"
 }
 
-// literalText is a literal as JSON writes it; false of a text that is none.
+// literalText returns a literal as JSON; false if the text is not one.
 func literalText(text string) (string, bool) {
 	value, ok := strict.ReadLiteral(text)
 	if !ok {
@@ -54,7 +54,7 @@ func literalText(text string) (string, bool) {
 	return jsonText(value), true
 }
 
-// known is the value of an expression that names and functions have no part in.
+// known returns the value of an expression without names and functions.
 func known(node feel.Node) (strict.Value, bool) {
 	switch of := node.(type) {
 	case *strict.Group:
@@ -88,7 +88,7 @@ func knownChain(chain *feel.Chain) (strict.Value, bool) {
 	return result, true
 }
 
-// calculated is what an operator makes of two numbers; false where that is out of range.
+// calculated applies an operator to two numbers; false if the result is out of range.
 func calculated(one int64, operator string, other int64) (int64, bool) {
 	var result int64
 	switch operator {
@@ -113,7 +113,7 @@ func calculated(one int64, operator string, other int64) (int64, bool) {
 	return result, result != math.MinInt64
 }
 
-// isNumber tells whether an expression is a number, which may have a minus.
+// isNumber reports whether an expression is a number, perhaps with a minus.
 func isNumber(node feel.Node) bool {
 	if negation, ok := node.(*feel.Negation); ok {
 		return isNumber(negation.Operand)

@@ -5,7 +5,7 @@ import (
 	"gateway/model"
 )
 
-// What is said of a mistake.
+// Messages about a mistake.
 const (
 	saidName     = "no name"
 	saidTwice    = "a name that stands before in its list"
@@ -26,7 +26,7 @@ var saidOfText = map[strict.Kind]string{
 	strict.Expression: "no expression", strict.UnaryTests: "no unary tests", strict.Literal: "no literal",
 }
 
-// kindOf is what the text at a place is to be.
+// kindOf returns the expected kind of the text at a place.
 func kindOf(place Place) strict.Kind {
 	switch place.lastKey() {
 	case "when":
@@ -37,7 +37,7 @@ func kindOf(place Place) strict.Kind {
 	return strict.Expression
 }
 
-// mistake says what is wrong at a place that has this fault.
+// mistake says what is wrong at a place with this fault.
 func (f *file) mistake(fault string, place Place) string {
 	switch fault {
 	case "name":
@@ -60,7 +60,7 @@ func (f *file) mistake(fault string, place Place) string {
 	return fault
 }
 
-// tableMistake says why a table is refused, or that a rule of it is unfit.
+// tableMistake says why a table is refused, or that one of its rules doesn't fit.
 func (f *file) tableMistake(place Place) string {
 	if place.endsWithIndex() {
 		return saidRule
@@ -85,7 +85,7 @@ func isPolicy(hit string) bool {
 	return false
 }
 
-// columnsFit tells whether a table has output columns of different names, and in each rule as many entries as columns.
+// columnsFit reports whether a table's output columns have different names, and each rule an entry for each column.
 func columnsFit(table *model.Table) bool {
 	names := map[string]bool{}
 	for _, output := range table.Outputs {
@@ -102,8 +102,8 @@ func columnsFit(table *model.Table) bool {
 	return true
 }
 
-// isToldByParts tells whether what is wrong with a table is told of its parts too: of its rules, or of a name.
-func (f *file) isToldByParts(said string, place Place) bool {
+// isReportedByParts reports whether what is wrong with a table is reported at its parts too: at its rules, or at a name.
+func (f *file) isReportedByParts(said string, place Place) bool {
 	if said != saidColumns {
 		return false
 	}
@@ -111,7 +111,7 @@ func (f *file) isToldByParts(said string, place Place) bool {
 	return table != nil && len(table.Outputs) > 0
 }
 
-// table is the table at a place.
+// table returns the table at a place.
 func (f *file) table(place Place) *model.Table {
 	if f.model == nil || len(place) < 2 || place[0].Key != "decisions" || place[1].Index >= len(f.model.Decisions) {
 		return nil
@@ -137,7 +137,7 @@ func (f *file) table(place Place) *model.Table {
 	return nil
 }
 
-// element is a member of a list, or an entry of a context.
+// element returns a member of a list, or an entry of a context.
 func element(logic model.Expression, index int) model.Expression {
 	switch logic := logic.(type) {
 	case model.List:
@@ -152,7 +152,7 @@ func element(logic model.Expression, index int) model.Expression {
 	return nil
 }
 
-// service is the service at a place.
+// service returns the service at a place.
 func (f *file) service(place Place) *model.Service {
 	if f.model == nil || place.owner() >= len(f.model.Services) {
 		return nil

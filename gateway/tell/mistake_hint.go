@@ -8,11 +8,11 @@ import (
 	"gateway/model"
 )
 
-// mostWalks is at how many places of a fault the model is searched for what helps.
+// mostWalks limits the places of a fault for which the model is searched for a hint.
 const mostWalks = 10
 
-// hint is what helps at a place that has this fault, before which so many were told; empty where nothing is known. Where a text has
-// no reading that is told apart.
+// hint returns a hint for a place with this fault, or "". before is how many were reported before it. A text without a reading
+// is handled elsewhere.
 func (f *file) hint(fault, said string, place Place, before int) string {
 	text, _ := f.text(place)
 	switch fault {
@@ -45,7 +45,7 @@ func orNear(said, near string) string {
 	return said + "; is it " + near + "?"
 }
 
-// nameHint is what helps where a text in the place of a name is none.
+// nameHint returns a hint about a text that can't be a name.
 func nameHint(text string) string {
 	switch {
 	case text == "":
@@ -83,7 +83,7 @@ func (f *file) tableHint(said string, place Place) string {
 	return ""
 }
 
-// meantPolicies are the words of policies in DMN's tools.
+// meantPolicies are the words that DMN tools use for policies.
 var meantPolicies = map[string]string{
 	"unique": "U", "any": "A", "priority": "P", "first": "F", "rule order": "R", "output order": "O", "collect": "C",
 	"u": "U", "a": "A", "p": "P", "f": "F", "r": "R", "o": "O", "c": "C",
@@ -99,7 +99,7 @@ func policyHint(hit string) string {
 	return orNear(hint, policy)
 }
 
-// ruleHint is how many entries a rule has, and how many columns its table.
+// ruleHint says how many entries a rule has, and how many columns its table.
 func (f *file) ruleHint(place Place) string {
 	if len(place) < 2 {
 		return ""
@@ -114,10 +114,10 @@ func (f *file) ruleHint(place Place) string {
 		len(rule.When), len(table.Inputs), len(rule.Then), len(table.Outputs))
 }
 
-// mostNames is how many names a hint has at most.
+// mostNames limits the names in a hint.
 const mostNames = 10
 
-// joined are names with commas between; of many the first ten, and two dots.
+// joined joins names with commas; of many, the first ten and two dots.
 func joined(names []string) string {
 	if len(names) > mostNames {
 		names = append(append([]string(nil), names[:mostNames]...), "..")
@@ -125,7 +125,7 @@ func joined(names []string) string {
 	return strings.Join(names, ", ")
 }
 
-// ringHint is the shortest way from a decision through what it needs to itself.
+// ringHint returns the shortest cycle of needs from a decision back to itself.
 func ringHint(m *model.Model, start int) string {
 	indexes := map[string]int{}
 	for at, decision := range m.Decisions {
@@ -149,7 +149,7 @@ func ringHint(m *model.Model, start int) string {
 	return ""
 }
 
-// wayBack are the names from a decision to itself, by what each is needed by.
+// wayBack returns the names from a decision back to itself, along neededBy.
 func wayBack(m *model.Model, neededBy []int, start int) []string {
 	back := []string{m.Decisions[start].Name}
 	for at := neededBy[start] - 1; ; at = neededBy[at] - 1 {
@@ -187,7 +187,7 @@ func setOf(lists ...[]string) map[string]bool {
 	return set
 }
 
-// strangers are the names of a service that are no decisions, or in inputData no inputs.
+// strangers returns the names in a service that are not decisions, or in inputData not inputs.
 func strangers(m *model.Model, service *model.Service) []string {
 	var found []string
 	add := func(known map[string]bool, names []string) {
@@ -208,7 +208,7 @@ func strangers(m *model.Model, service *model.Service) []string {
 	return found
 }
 
-// shared are the input decisions of a service that are also outputs or encapsulated.
+// shared returns a service's input decisions that are also outputs or encapsulated.
 func shared(service *model.Service) []string {
 	inner := setOf(service.Outputs, service.Encapsulated)
 	var found []string
@@ -220,7 +220,7 @@ func shared(service *model.Service) []string {
 	return found
 }
 
-// unlisted are the decisions and inputs that a service reaches and doesn't list.
+// unlisted returns the decisions and inputs that a service reaches and doesn't list.
 func unlisted(m *model.Model, service *model.Service) []string {
 	listed := setOf(service.Outputs, service.Encapsulated, service.InputDecisions, service.InputData)
 	decisions := map[string]*model.Decision{}

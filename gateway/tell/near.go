@@ -2,8 +2,8 @@ package tell
 
 import "gateway/model"
 
-// isNear tells whether two names differ by one letter that is another one, missing or added, or by two letters that are swapped.
-// Names of less than three letters are near none.
+// isNear reports whether two names differ by one changed, missing or added letter, or by two swapped ones. Names under three
+// letters are near none.
 func isNear(one, other string) bool {
 	if len(one) > len(other) {
 		one, other = other, one
@@ -27,7 +27,7 @@ func isNear(one, other string) bool {
 	return len(rest) > 1 && rest[0] == others[1] && rest[1] == others[0] && rest[2:] == others[2:]
 }
 
-// nearIn is the first of these names that is near; empty where none is.
+// nearIn returns the first of these names that is near, or "".
 func nearIn(names []string, name string) string {
 	for _, other := range names {
 		if isNear(other, name) {
@@ -37,7 +37,7 @@ func nearIn(names []string, name string) string {
 	return ""
 }
 
-// nearInModel is the first input, or else the first decision, whose name is near.
+// nearInModel returns the first input, or else the first decision, whose name is near.
 func nearInModel(m *model.Model, name string) string {
 	if near := nearIn(m.Inputs, name); near != "" {
 		return near

@@ -3,26 +3,26 @@ package tell
 // fewNames is how many names are compared one by one.
 const fewNames = 32
 
-// A nameIndex finds the first of many names that is near another one. Names that are near are the same but for one place, so it
-// keeps the sums of each name with each of its bytes left open; the time to find one doesn't grow with how many there are.
+// A nameIndex finds the first of many names that is near another one. Near names are equal but for one place, so the index
+// keeps sums of each name with each of its bytes left open. The time of a search doesn't grow with the number of names.
 type nameIndex struct {
 	names []string
-	// whole and open give the last place of names with a sum, and earlier the place before it.
+	// whole and open map a sum to the last place of a name with it, and earlier links to the one before.
 	whole, open map[uint64]int32
 	earlier     []placed
 }
 
-// A placed is a name by its place, and where the one before it with the same sum stands; 0 for none.
+// A placed is a name's place, and the place of the one before with the same sum; 0 for none.
 type placed struct{ name, before int32 }
 
 const (
-	// base is that of the sums: any odd number that is large.
+	// base is the base of the sums: any large odd number.
 	base uint64 = 0x9e3779b97f4a7c15
 	// anyByte stands for a byte that is left open.
 	anyByte uint64 = 257
 )
 
-// sums are those of the beginnings of a text, and the powers of the base up to its length.
+// A sums holds the sums of a text's prefixes, and the powers of the base up to its length.
 type sums struct {
 	text          string
 	heads, powers []uint64
@@ -39,7 +39,7 @@ func sumsOf(text string) *sums {
 	return s
 }
 
-// with is the sum of the text whose bytes between two places are these instead.
+// with returns the sum of the text with letters in place of the bytes between from and to.
 func (s *sums) with(from, to int, letters ...uint64) uint64 {
 	sum := s.heads[from]
 	for _, it := range letters {
@@ -70,7 +70,7 @@ func (x *nameIndex) keep(in map[uint64]int32, sum uint64, place int) {
 	in[sum] = int32(len(x.earlier) - 1)
 }
 
-// near is the first name that is near this one and not among those that are left out; empty where none is.
+// near returns the first near name that is not in without, or "".
 func (x *nameIndex) near(name string, without set) string {
 	if len(x.names) <= fewNames {
 		for _, other := range x.names {
@@ -84,7 +84,7 @@ func (x *nameIndex) near(name string, without set) string {
 		x.make()
 	}
 	s, best := sumsOf(name), int32(len(x.names))
-	// (a name of one letter is met at each of its places)
+	// (a name of one letter matches at each of its places)
 	tried := map[int32]bool{}
 	try := func(at int32) {
 		for ; at != 0; at = x.earlier[at].before {

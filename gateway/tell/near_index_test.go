@@ -6,7 +6,7 @@ import (
 	"testing"
 )
 
-// TestNearIndex finds in an index what is found by comparing one name after the other.
+// TestNearIndex finds in an index what comparing one by one finds.
 func TestNearIndex(t *testing.T) {
 	draw := rand.New(rand.NewSource(1))
 	word := func() string {
@@ -48,7 +48,7 @@ func TestNearIndex(t *testing.T) {
 	}
 }
 
-// TestLongNames asks for names of one letter, each place of which fits.
+// TestLongNames searches for names of one letter repeated, which match at each place.
 func TestLongNames(t *testing.T) {
 	var names []string
 	for n := 0; n < fewNames+1; n++ {

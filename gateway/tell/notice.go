@@ -6,7 +6,7 @@ import (
 	"strings"
 )
 
-// A Level says how bad a finding is, in the words of SARIF.
+// A Level is the severity of a finding, in SARIF's words.
 type Level string
 
 const (
@@ -15,8 +15,8 @@ const (
 	Note    Level = "note"
 )
 
-// A Spot is where something begins in a file. Lines and columns are counted from 1; line 0 is the file as a whole. The file is
-// empty where it is the one that is checked.
+// A Spot is a position in a file. Lines and columns are counted from 1; line 0 is the whole file. File is "" for the file that
+// is checked.
 type Spot struct {
 	File         string
 	Line, Column int
@@ -24,18 +24,18 @@ type Spot struct {
 
 // A Notice is one finding, for programs that show it at its place.
 type Notice struct {
-	// Kind is one of the kinds of the catalogue.
+	// Kind is a kind of the catalogue.
 	Kind  string
 	Level Level
-	// Spot has its column in characters. Its file is empty where none is known.
+	// Spot has its column in characters. Its file is "" if none is known.
 	Spot Spot
-	// Pointer is the JSON Pointer of the place in the model; it may be empty.
+	// Pointer is the JSON Pointer of the place in the model; it may be "".
 	Pointer string
 	// Said says what was found, and where in the model.
 	Said string
 }
 
-// said is the message, with the place where no file is known.
+// said returns the message, with the place if no file is known.
 func (n Notice) said() string {
 	if n.Spot.File == "" && n.Spot.Line > 0 {
 		return fmt.Sprintf("line %d, column %d: %s", n.Spot.Line, n.Spot.Column, n.Said)
@@ -43,21 +43,21 @@ func (n Notice) said() string {
 	return n.Said
 }
 
-// The first parts of the names of kinds: faults, warnings, findings of tables, lines of requests, and what an import finds.
+// Prefixes of kinds: faults, warnings, findings about tables, request lines, and findings of an import.
 const (
 	ofFault    = "fault-"
 	ofWarning  = "warning-"
 	ofTable    = "table-"
 	ofRequests = "request-"
-	// ImportRefused is the kind of a place that an import refuses, ImportNote that of a note of it.
+	// ImportRefused is the kind of a place that an import refuses, ImportNote that of a note.
 	ImportRefused = "import-refused"
 	ImportNote    = "import-note"
 )
 
-// kindName is the name of a kind: of what it is, and the word that the lines of JSON have for it.
+// kindName returns the name of a kind: its prefix, and the word used in the lines of JSON.
 func kindName(of, word string) string { return of + strings.ReplaceAll(word, " ", "-") }
 
-// A noticeKind is what a kind means, and the level that it mostly has.
+// A noticeKind is a kind's meaning and its usual level.
 type noticeKind struct {
 	level   Level
 	meaning string
@@ -134,7 +134,7 @@ var catalogue = map[string]noticeKind{
 	ImportNote:                         {Note, "A note of the import on what it took"},
 }
 
-// kindsInOrder are the names of the kinds, in the order of their bytes.
+// kindsInOrder returns the kinds, sorted by bytes.
 func kindsInOrder() []string {
 	var names []string
 	for name := range catalogue {
@@ -149,7 +149,7 @@ func (r *report) notice(kind string, level Level, place Place, said string) {
 	if !r.format.HasNotices() {
 		return
 	}
-	r.noticeAt(kind, level, r.file.position(place), place.Pointer(), behindColon(r.file.words(place), said))
+	r.noticeAt(kind, level, r.file.position(place), place.Pointer(), afterColon(r.file.words(place), said))
 }
 
 // noticeAt keeps a finding at a place of the file.

@@ -30,7 +30,7 @@ func TestCatalogue(t *testing.T) {
 	}
 }
 
-// TestNotices writes what is at the edges of the formats: files and spots that aren't known, escapes, and no such kind.
+// TestNotices writes the formats' edge cases: unknown files and spots, escapes, and an unknown kind.
 func TestNotices(t *testing.T) {
 	notices := []Notice{
 		{"fault-name", Error, Spot{"a\r\nb", 2, 3}, "/a", "x\r\ny, z: 5%"},

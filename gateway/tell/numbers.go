@@ -9,16 +9,16 @@ import (
 	"gateway/model"
 )
 
-// numberUses is a walk through a model, in search for values of which all tests ask for numbers.
+// A numberUses walks through a model and collects values that are only tested as numbers.
 type numberUses struct {
-	// asked has the values that some column tests; false says that a test of it may ask for something else.
+	// asked has the values that some column tests; false means that a test may ask for something else.
 	asked map[valueName]bool
-	// hidden are the names of entries of contexts, which may hide those of parameters.
+	// hidden has the names of context entries, which may hide parameters.
 	hidden set
 }
 
-// numbersAsked are the values of which some column's tests ask, all of them for numbers, and that nothing compares with anything
-// else. A value whose name an entry of a context has too is none of them.
+// numbersAsked returns the values that columns test, always as numbers, and that nothing compares with anything else. It leaves
+// out names that a context entry has too.
 func numbersAsked(m *model.Model) map[valueName]bool {
 	u := numberUses{asked: map[valueName]bool{}, hidden: set{}}
 	for at := range m.Decisions {
@@ -78,7 +78,7 @@ func (u *numberUses) table(table *model.Table) {
 	}
 }
 
-// column takes the tests of a column of a value; one that takes everything asks for nothing.
+// column takes the tests of a value's column; a column that takes everything asks for nothing.
 func (u *numberUses) column(subject valueName, column []strict.Tests) {
 	isAsked, isNumber := false, true
 	for _, tests := range column {
@@ -99,7 +99,7 @@ func (u *numberUses) text(text string) {
 	}
 }
 
-// compared takes the values that texts compare with something else than numbers.
+// compared takes the values that texts compare with something other than numbers.
 func (u *numberUses) compared(nodes ...feel.Node) {
 	for _, node := range nodes {
 		eachComparison(node, func(subject valueName, other feel.Node) {
@@ -117,13 +117,13 @@ func (u *numberUses) take(subject valueName, isNumber bool) {
 	u.asked[subject] = isNumber && (was || !known)
 }
 
-// The notes that the engine doesn't know of.
+// The notes that the engine doesn't make.
 const (
 	noteEntry = "no entry"
 	noteText  = "text for number"
 )
 
-// texts puts notes on a parameter and its entries that are texts, where all tests ask for numbers.
+// texts notes parameters and entries that are texts though all tests ask for numbers.
 func (r *reading) texts(doc *lines.Document, name string, value lines.Node) {
 	if text, ok := doc.Text(value); ok {
 		if r.numbers[valueName{name, ""}] {
@@ -143,10 +143,10 @@ func (r *reading) texts(doc *lines.Document, name string, value lines.Node) {
 	}
 }
 
-// textNote is the note on a value that is a text; the number may be meant that the text is.
+// textNote is the note on a value that is a text; it may mean the number in it.
 func textNote(name, text string) note {
 	near := ""
-	// The digits of JSON have no zero and no plus before them.
+	// JSON's digits have no leading zero or plus.
 	if number, err := strconv.ParseInt(text, 10, 64); err == nil && strconv.FormatInt(number, 10) == text && lines.IsWhole(text) {
 		near = text
 	}

@@ -7,7 +7,7 @@ import (
 	"testing"
 )
 
-// TestTextForNumber warns of a text where each test of a parameter, or of an entry of it, asks for a number.
+// TestTextForNumber warns of a text where all tests of a parameter, or of its entry, ask for numbers.
 func TestTextForNumber(t *testing.T) {
 	const (
 		isText = "line 2: p is a text, and all its tests ask for numbers"
@@ -47,9 +47,9 @@ func TestTextForNumber(t *testing.T) {
 		model := fmt.Sprintf(form, text(row.columns[0]), text(row.columns[1]), text(row.one[0]), text(row.one[1]), text(row.other[0]),
 			text(row.other[1]), text(row.gives))
 		input := model + "\n" + `{"client":"c","service":"s","inputs":` + row.inputs + "}\n"
-		told, err := Told(CheckOptions{Requests: true}, []byte(input), []byte(`{"lawful":true}`))
+		reported, err := Told(CheckOptions{Requests: true}, []byte(input), []byte(`{"lawful":true}`))
 		var found string
-		for _, line := range strings.SplitAfter(string(told), "\n") {
+		for _, line := range strings.SplitAfter(string(reported), "\n") {
 			if strings.HasPrefix(line, "line 2: ") {
 				found += line
 			}
@@ -66,22 +66,22 @@ func TestManyTexts(t *testing.T) {
 		`{"table":{"hit":"F","inputs":["p"],"outputs":[{"name":"x"}],"rules":[{"when":["> 5"],"then":["1"]}]}}}],` +
 		`"services":[{"name":"s","outputs":["d"],"encapsulated":[],"inputDecisions":[],"inputData":["p"]}]}`
 	const lines = 1500
-	// On each line q is no parameter, and p is a text.
+	// On each line q is not a parameter, and p is a text.
 	input := model + "\n" + strings.Repeat(`{"client":"c","service":"s","inputs":{"p":"6","q":1}}`+"\n", lines)
-	told, err := Told(CheckOptions{Requests: true}, []byte(input), []byte(`{"lawful":true}`))
-	if count := strings.Count(string(told), "\nline "); err != nil || count != mostNotes || !strings.HasSuffix(string(told), "\nand 2000 notes more\n") {
-		t.Errorf("%v: %d notes, and %q", err, count, told[len(told)-40:])
+	reported, err := Told(CheckOptions{Requests: true}, []byte(input), []byte(`{"lawful":true}`))
+	if count := strings.Count(string(reported), "\nline "); err != nil || count != mostNotes || !strings.HasSuffix(string(reported), "\nand 2000 notes more\n") {
+		t.Errorf("%v: %d notes, and %q", err, count, reported[len(reported)-40:])
 	}
 }
 
-// TestTextForHiddenNumber says nothing of a parameter whose name an entry of a context has too.
+// TestTextForHiddenNumber has no note on a parameter whose name a context entry has too.
 func TestTextForHiddenNumber(t *testing.T) {
 	const model = `{"inputs":["p"],"decisions":[{"name":"d","needs":["p"],"expr":{"context":[{"name":"p","expr":"1"}],"result":` +
 		`{"table":{"hit":"F","inputs":["p"],"outputs":[{"name":"x"}],"rules":[{"when":["> 5"],"then":["1"]}]}}}}],` +
 		`"services":[{"name":"s","outputs":["d"],"encapsulated":[],"inputDecisions":[],"inputData":["p"]}]}`
 	input := model + "\n" + `{"client":"c","service":"s","inputs":{"p":"6"}}` + "\n"
-	told, err := Told(CheckOptions{Requests: true}, []byte(input), []byte(`{"lawful":true}`))
-	if err != nil || strings.Contains(string(told), "line 2: ") {
-		t.Errorf("%v: %s", err, told)
+	reported, err := Told(CheckOptions{Requests: true}, []byte(input), []byte(`{"lawful":true}`))
+	if err != nil || strings.Contains(string(reported), "line 2: ") {
+		t.Errorf("%v: %s", err, reported)
 	}
 }

@@ -6,10 +6,10 @@ import (
 	"gateway/lines"
 )
 
-// quoted is a text in quotes, as the engine writes it.
+// quoted returns a text in quotes, as the engine writes it.
 func quoted(text string) string { return string(lines.AppendQuoted(nil, text)) }
 
-// An object is one of JSON, as far as it is written.
+// An object is a JSON object as far as it is written.
 type object []byte
 
 func (o object) key(key string) object {
@@ -23,7 +23,7 @@ func (o object) key(key string) object {
 
 func (o object) text(key, text string) object { return lines.AppendQuoted(o.key(key), text) }
 
-// some adds a text that isn't empty.
+// some adds a text unless it is empty.
 func (o object) some(key, text string) object {
 	if text == "" {
 		return o
@@ -35,12 +35,12 @@ func (o object) number(key string, number int) object {
 	return strconv.AppendInt(o.key(key), int64(number), 10)
 }
 
-// position adds where something is: the file too where it is not the one that is checked.
+// position adds a spot, with its file unless that is the one checked.
 func (o object) position(spot Spot) object {
 	return o.some("file", spot.File).number("line", spot.Line).number("column", spot.Column)
 }
 
-// line is the whole object, with a newline.
+// line returns the whole object, with a newline.
 func (o object) line() string {
 	if len(o) == 0 {
 		return "{}\n"
@@ -48,5 +48,5 @@ func (o object) line() string {
 	return string(append(o, '}', '\n'))
 }
 
-// raw adds what is JSON already.
+// raw adds JSON.
 func (o object) raw(key, json string) object { return append(o.key(key), json...) }

@@ -6,7 +6,7 @@ import (
 	"gateway/model"
 )
 
-// The kinds of what is lawful and mostly a mistake, in the order in which it is told how many more there are.
+// The kinds of warnings, in the order in which the counts of further ones are reported.
 const (
 	oddUnbound    = "unbound"
 	oddUnneeded   = "unneeded"
@@ -34,31 +34,31 @@ var oddKinds = []string{
 	oddNumber, oddTruth, oddList, oddCut, oddAdded, oddNeverGiven, oddNoEntry,
 }
 
-// An oddity is lawful and mostly a mistake.
+// An oddity is valid, and usually a mistake.
 type oddity struct {
 	kind  string
 	place Place
 	said  string
 }
 
-// A walk goes once through a model, and notes what is odd.
+// A walk goes once through a model and notes oddities.
 type walk struct {
 	model *model.Model
 	scope *scope
 	given *given
-	// needs is how many of the bindings in scope are those of the decision's needs.
+	// needs is how many of the bindings in scope are the decision's needs.
 	needs int
 	place Place
 	found []oddity
-	// counts are how many of each kind there are.
+	// counts is how many there are of each kind.
 	counts map[string]int
-	// texts is how many texts were looked at, and noted has for each name that nothing binds the last text that it was noted of.
+	// texts is how many texts were looked at. noted has, for each unbound name, the last text for which it was noted.
 	texts int
 	noted map[string]int
 }
 
-// oddities are what is odd in a lawful model, of each kind the first 100; and how many there are of each kind. The time is in
-// proportion to the length of the model, times the logarithm of how many names it has.
+// oddities returns the first 100 oddities of each kind in a valid model, and how many there are of each kind. The time is
+// proportional to the length of the model, times the logarithm of its number of names.
 func oddities(m *model.Model) ([]oddity, map[string]int) {
 	w := &walk{model: m, scope: newScope(), given: givenIn(m), counts: map[string]int{}, noted: map[string]int{}}
 	w.values()
@@ -71,14 +71,14 @@ func oddities(m *model.Model) ([]oddity, map[string]int) {
 	return w.found, w.counts
 }
 
-// within looks at a part at a step from here.
+// within looks at the part that a step leads to.
 func (w *walk) within(step Step, look func()) {
 	w.place = append(w.place, step)
 	look()
 	w.place = w.place[:len(w.place)-1]
 }
 
-// note keeps an oddity at the place that these steps lead to from here, unless there are enough of its kind.
+// note keeps an oddity at the place that these steps lead to, unless there are enough of its kind.
 func (w *walk) note(kind string, steps []Step, said func() string) {
 	w.counts[kind]++
 	if w.counts[kind] <= mostPlaces {
@@ -142,7 +142,7 @@ func (w *walk) unusedEntries(context model.Context, first int) {
 	}
 }
 
-// expression looks at a text that is an expression. In a cell, names are mostly texts without their quotes.
+// expression looks at the text of an expression. Names in a cell are usually texts without quotes.
 func (w *walk) expression(steps []Step, text string, isCell bool) {
 	if node, ok := strict.ReadExpression(text); ok {
 		w.look(steps, text, isCell, node)
@@ -150,7 +150,7 @@ func (w *walk) expression(steps []Step, text string, isCell bool) {
 	}
 }
 
-// look looks at the names, the comparisons and the sums of a text.
+// look looks at the names, comparisons and sums of a text.
 func (w *walk) look(steps []Step, text string, isCell bool, nodes ...feel.Node) {
 	w.texts++
 	for _, node := range nodes {
@@ -178,7 +178,7 @@ func (w *walk) look(steps []Step, text string, isCell bool, nodes ...feel.Node) 
 	}
 }
 
-// unbound notes a name that nothing binds.
+// unbound notes an unbound name.
 func (w *walk) unbound(steps []Step, name string, isCell bool) {
 	w.note(oddUnbound, steps, func() string {
 		near := w.scope.near(name)
@@ -196,7 +196,7 @@ func (w *walk) unbound(steps []Step, name string, isCell bool) {
 	})
 }
 
-// entryOf notes an entry that is taken of the value of a needed decision and that it never has.
+// entryOf notes an entry that the value of a needed decision never has.
 func (w *walk) entryOf(steps []Step, used valueName) {
 	if used.entry == "" || !w.isNeed(used.name) || !w.given.lacks(used.name, used.entry) {
 		return
@@ -206,13 +206,13 @@ func (w *walk) entryOf(steps []Step, used valueName) {
 	})
 }
 
-// isNeed tells whether a name is that of a need here, which no entry hides.
+// isNeed reports whether a name is a need here that no entry hides.
 func (w *walk) isNeed(name string) bool {
 	number, bound := w.scope.numbers[name]
 	return bound && number < w.needs
 }
 
-// isKnown tells whether it is known which literals a value may be.
+// isKnown reports whether it is known which literals a value may be.
 func (w *walk) isKnown(subject valueName) bool {
 	return w.isNeed(subject.name) && w.given.literals(subject) != nil
 }

@@ -8,7 +8,7 @@ import (
 	"gateway/feel/strict"
 )
 
-// More kinds of what is lawful and mostly a mistake.
+// More kinds of warnings.
 const (
 	oddCondition = "no condition"
 	oddSettled   = "settled condition"
@@ -24,7 +24,7 @@ func init() {
 	oddKinds = append(oddKinds, oddCondition, oddSettled, oddDead, oddNull, oddCounted, oddSame, oddColumn, oddService)
 }
 
-// slips looks at conditions of a text that say something else than they seem to, and at what is always null.
+// slips looks for conditions that don't mean what they seem to, and for what is always null.
 func (w *walk) slips(steps []Step, text string, node feel.Node) {
 	switch of := node.(type) {
 	case *feel.Name, *feel.Number, *feel.String:
@@ -41,13 +41,13 @@ func (w *walk) slips(steps []Step, text string, node feel.Node) {
 	eachPart(node, func(part feel.Node) { w.slips(steps, text, part) })
 }
 
-// spelled is a form as it is written.
+// spelled returns a form as it is written.
 func spelled(text string, node feel.Node) string {
 	at := node.At()
 	return text[at.Start:at.End]
 }
 
-// ungrouped is a form without the parentheses around it.
+// ungrouped returns a form without the parentheses around it.
 func ungrouped(node feel.Node) feel.Node {
 	for {
 		group, ok := node.(*strict.Group)
@@ -68,7 +68,7 @@ func (w *walk) chainSlips(steps []Step, text string, chain *feel.Chain) {
 	}
 }
 
-// noConditions notes operands of "and" and "or" that are neither true nor false: a = 5 or 6.
+// noConditions notes operands of "and" and "or" that are neither true nor false, such as a = 5 or 6.
 func (w *walk) noConditions(steps []Step, text string, chain *feel.Chain) {
 	for at, operand := range chain.Operands {
 		value, isConstant := strict.ConstantOf(ungrouped(operand))
@@ -96,7 +96,7 @@ type claim struct {
 
 var turned = map[string]string{"=": "=", "!=": "!=", "<": ">", ">": "<", "<=": ">=", ">=": "<="}
 
-// claimOf reads a condition as a claim; false of another one.
+// claimOf reads a condition as a claim; false if it is none.
 func claimOf(node feel.Node) (claim, bool) {
 	compared, ok := ungrouped(node).(*feel.Binary)
 	if !ok {
@@ -111,7 +111,7 @@ func claimOf(node feel.Node) (claim, bool) {
 	return claim{subject, turned[compared.Operator], constant}, ok && isKnown && constant != nil
 }
 
-// numbers are those for which a claim is true; false where it isn't one of a number's size.
+// numbers returns the numbers for which a claim is true; false if it isn't about a number's size.
 func (c claim) numbers() (span, bool) {
 	number, ok := c.constant.(int64)
 	switch {
@@ -123,7 +123,7 @@ func (c claim) numbers() (span, bool) {
 	return bounded(c.operator, number), true
 }
 
-// excludes tells whether two claims on one value are never both true.
+// excludes reports whether two claims about one value are never both true.
 func (c claim) excludes(other claim) bool {
 	if c.subject != other.subject || c.operator == "!=" || other.operator == "!=" {
 		return false
@@ -136,7 +136,7 @@ func (c claim) excludes(other claim) bool {
 	return isOne && isTwo && (one.high < two.low || two.high < one.low)
 }
 
-// settledChain notes claims of which two are never both true, and unequal claims of which one always holds.
+// settledChain notes claims that are never both true, and unequal claims of which one always is.
 func (w *walk) settledChain(steps []Step, text, operator string, chain *feel.Chain) {
 	claims := map[valueName][]claim{}
 	for _, operand := range chain.Operands {
@@ -160,7 +160,7 @@ func (w *walk) settledChain(steps []Step, text, operator string, chain *feel.Cha
 	}
 }
 
-// branchSlips notes a condition that is the same whatever the inputs are, and one that isn't reached where it is true.
+// branchSlips notes a condition that doesn't depend on the inputs, and one that isn't reached where it is true.
 func (w *walk) branchSlips(steps []Step, text string, of *feel.If) {
 	condition := ungrouped(of.Condition)
 	_, isConstant := condition.(*feel.Boolean)
@@ -177,20 +177,20 @@ func (w *walk) branchSlips(steps []Step, text string, of *feel.If) {
 	}
 	later, ok := claimOf(next.Condition)
 	before, isBefore := first.numbers()
-	behind, isBehind := later.numbers()
-	if ok && isBefore && isBehind && first.subject == later.subject && before.low <= behind.low && behind.high <= before.high {
+	after, isAfter := later.numbers()
+	if ok && isBefore && isAfter && first.subject == later.subject && before.low <= after.low && after.high <= before.high {
 		w.note(oddDead, steps, func() string {
 			return fmt.Sprintf("%s is never true here: %s comes before it", spelled(text, next.Condition), spelled(text, of.Condition))
 		})
 	}
 }
 
-// sameSpelling tells whether two texts differ in blanks alone.
+// sameSpelling reports whether two texts differ only in blanks.
 func sameSpelling(one, other string) bool {
 	return strings.Join(strings.Fields(one), " ") == strings.Join(strings.Fields(other), " ")
 }
 
-// callSlips notes functions of lists of what never is one.
+// callSlips notes list functions of what never is a list.
 func (w *walk) callSlips(steps []Step, text string, call *feel.Call) {
 	name, _ := call.Function.(*feel.Name)
 	switch name.Name {
@@ -220,13 +220,13 @@ func (w *walk) arithmeticSlips(steps []Step, text string, whole feel.Node, opera
 	}
 }
 
-// isNoList tells whether a value never is a list.
+// isNoList reports whether a value never is a list.
 func (g *given) isNoList(of valueName) bool {
 	gives := g.decisions[of.name]
 	return gives != nil && (gives.isNumber && of.entry == "" || g.literals(of) != nil)
 }
 
-// mayBeNumber tells whether one of the literals that a value may be is a number.
+// mayBeNumber reports whether one of the literals that a value may be is a number.
 func (g *given) mayBeNumber(of valueName) bool {
 	may, isSeen := g.numbers[of]
 	if isSeen {
@@ -239,7 +239,7 @@ func (g *given) mayBeNumber(of valueName) bool {
 	return may
 }
 
-// countedCells notes differences of numbers in an entry, written without blanks, which are mostly days or intervals: 2026-01-31, 5-7.
+// countedCells notes differences of numbers written without blanks, which are usually dates or intervals: 2026-01-31, 5-7.
 func (w *walk) countedCells(steps []Step, text string, tests strict.Tests) {
 	for _, test := range tests.List {
 		nodes := []feel.Node{test}

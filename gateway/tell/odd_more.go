@@ -7,7 +7,7 @@ import (
 	"gateway/model"
 )
 
-// sameRule notes a rule that counts twice under C+ or C#: it has the tests of an earlier one, and gives the same.
+// sameRule notes a rule that counts twice under C+ or C#: an earlier rule has its tests and outputs.
 func (w *walk) sameRule(rules *ruleOrder, at int, tests ruleTests) {
 	gives := []string{tests.spelling}
 	for _, text := range rules.table.Rules[at].Then {
@@ -24,7 +24,7 @@ func (w *walk) sameRule(rules *ruleOrder, at int, tests ruleTests) {
 	}
 }
 
-// unusedColumns notes inputs that each rule takes whatever they are.
+// unusedColumns notes inputs that every rule accepts whatever they are.
 func (w *walk) unusedColumns(table *model.Table, columns []*column) {
 	for at, column := range columns {
 		if len(table.Rules) > 1 && column.any == len(table.Rules) {
@@ -33,11 +33,11 @@ func (w *walk) unusedColumns(table *model.Table, columns []*column) {
 	}
 }
 
-// mostReached is how many names are gone to, of all services together, in search for input decisions that aren't needed. Those of
-// services behind are not looked for.
+// mostReached limits the names visited, for all services together, in the search for input decisions that aren't needed.
+// Services past the limit are skipped.
 const mostReached = 200_000
 
-// services notes input decisions that a service lists and no output of it needs.
+// services notes input decisions that a service lists and none of its outputs needs.
 func (w *walk) services() {
 	needs := map[string][]string{}
 	for _, decision := range w.model.Decisions {
@@ -59,7 +59,7 @@ func (w *walk) services() {
 	}
 }
 
-// reachedBy are the names that the outputs of a service need, directly or through decisions that aren't brought.
+// reachedBy returns the names that a service's outputs need, directly or through decisions that aren't brought.
 func reachedBy(service model.Service, needs map[string][]string) set {
 	brought := setOf(service.InputDecisions)
 	reached := set{}

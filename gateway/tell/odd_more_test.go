@@ -9,14 +9,14 @@ import (
 	"gateway/model"
 )
 
-// A sound model, of which each row below changes one text.
+// A sound model. Each row below changes one text of it.
 const sound = `{"inputs":["region","a","risk"],"decisions":[
  {"name":"band","needs":["a"],"expr":{"table":{"hit":"U","inputs":["a"],"outputs":[{"name":"x","default":"\"none\""}],"rules":[{"when":["> 5"],"then":["\"high\""]},{"when":["[1..5]"],"then":["\"low\""]}]}}},
  {"name":"fees","needs":["a"],"expr":{"table":{"hit":"C+","inputs":["a"],"outputs":[{"name":"x"}],"rules":[{"when":["> 5"],"then":["3"]},{"when":["> 7"],"then":["3"]}]}}},
  {"name":"d","needs":["region","risk","band","fees","a"],"expr":{"list":["region","risk","band","fees","a","EXPR"]}}],
  "services":[{"name":"s","outputs":["d"],"encapsulated":["band","fees"],"inputDecisions":[],"inputData":["region","a","risk"]}]}`
 
-// The warnings on a model, each behind its kind.
+// warnedOf returns the warnings about a model, each after its kind.
 func warnedOf(t *testing.T, text string) []string {
 	t.Helper()
 	m, err := model.Parse([]byte(text))
@@ -24,14 +24,14 @@ func warnedOf(t *testing.T, text string) []string {
 		t.Fatalf("%s: %v", text, err)
 	}
 	found, _ := oddities(m)
-	told := []string{}
+	reported := []string{}
 	for _, it := range found {
-		told = append(told, it.kind+": "+it.said)
+		reported = append(reported, it.kind+": "+it.said)
 	}
-	return told
+	return reported
 }
 
-// slipRows are what the text EXPR of the sound model becomes, or a text in the place of another, and what is due. By hand.
+// slipRows are changes of the sound model and the expected warnings: new replaces EXPR or old. By hand.
 var slipRows = []struct{ old, new, due string }{
 	{`"EXPR"`, `"1"`, ""},
 	{`"EXPR"`, `"if region = \"north\" or \"south\" then 1 else 2"`, `no condition: "south" is neither true nor false; is it region = "south"?`},
@@ -67,20 +67,20 @@ var slipRows = []struct{ old, new, due string }{
 		"unreached input decision: no output of the service needs it"},
 }
 
-// TestSlips changes a sound model, and holds what is odd in it against what is due.
+// TestSlips changes a sound model and checks the warnings.
 func TestSlips(t *testing.T) {
 	for _, row := range slipRows {
 		text := strings.Replace(sound, row.old, row.new, 1)
 		if text == sound {
 			t.Errorf("%s is no part of the model", row.old)
 		}
-		if told := strings.Join(warnedOf(t, strings.Replace(text, "EXPR", "1", 1)), "\n"); told != row.due {
-			t.Errorf("%s: %q, and %q is due", row.new, told, row.due)
+		if reported := strings.Join(warnedOf(t, strings.Replace(text, "EXPR", "1", 1)), "\n"); reported != row.due {
+			t.Errorf("%s: %q, and %q is due", row.new, reported, row.due)
 		}
 	}
 }
 
-// TestExamplesHaveNoSlips looks for the newer warnings in all examples: there are none.
+// TestExamplesHaveNoSlips finds none of the newer warnings in any example.
 func TestExamplesHaveNoSlips(t *testing.T) {
 	folder := filepath.Join("..", "..", "examples")
 	found := 0

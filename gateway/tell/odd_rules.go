@@ -7,17 +7,17 @@ import (
 	"gateway/model"
 )
 
-// A ruleOrder is what is known of the rules of a table, one after another.
+// A ruleOrder is what is known of a table's rules, one after another.
 type ruleOrder struct {
 	table *model.Table
-	// all is the first rule that hits whatever the inputs are, counted from 1, 0 where none does; under P it gives the highest output.
+	// all is the first rule that hits whatever the inputs are, counted from 1, or 0. Under P it gives the highest output.
 	all int
-	// seen are the rules by their tests, and areSpelled says that they are compared.
+	// seen maps tests to rules. areSpelled means that tests are compared.
 	seen       map[string]int
 	areSpelled bool
 }
 
-// areCompared tells whether the hit policy asks which rules have the same tests.
+// areCompared reports whether the hit policy depends on which rules have the same tests.
 func areCompared(table *model.Table) bool {
 	switch table.Hit {
 	case "U", "F", "C+", "C#":
@@ -26,7 +26,7 @@ func areCompared(table *model.Table) bool {
 	return false
 }
 
-// rule looks at the rule that the walk is at.
+// rule looks at the current rule.
 func (w *walk) rule(rules *ruleOrder, at int, tests ruleTests) {
 	switch rules.table.Hit {
 	case "U":
@@ -46,7 +46,7 @@ func (w *walk) rule(rules *ruleOrder, at int, tests ruleTests) {
 	}
 }
 
-// sameBefore is the rule with the same tests, counted from 1; 0 where there is none yet.
+// sameBefore returns the earlier rule with the same tests, counted from 1, or 0.
 func (r *ruleOrder) sameBefore(at int, tests ruleTests) int {
 	if first := r.seen[tests.spelling]; first > 0 {
 		return first
@@ -89,7 +89,7 @@ func earlierRule(number int, takesAll bool) string {
 	return fmt.Sprintf("rule %d has the same tests", number)
 }
 
-// givesHighest tells whether a rule gives the first listed value in each column that lists any.
+// givesHighest reports whether a rule gives the first listed value in each column that lists values.
 func givesHighest(table *model.Table, rule int) bool {
 	for at, output := range table.Outputs {
 		if len(output.Values) == 0 || at >= len(table.Rules[rule].Then) {
@@ -104,7 +104,7 @@ func givesHighest(table *model.Table, rule int) bool {
 	return true
 }
 
-// policy looks at what the hit policy asks of the outputs.
+// policy checks the outputs against the hit policy.
 func (w *walk) policy(table *model.Table) {
 	switch table.Hit {
 	case "P", "O":
@@ -127,7 +127,7 @@ func listsValues(table *model.Table) bool {
 	return false
 }
 
-// numbers notes output entries that are no numbers.
+// numbers notes output entries that are not numbers.
 func (w *walk) numbers(table *model.Table) {
 	for at, rule := range table.Rules {
 		if len(rule.Then) == 0 {

@@ -8,7 +8,7 @@ import (
 	"gateway/model"
 )
 
-// table looks at the table that the walk is at.
+// table looks at the current table.
 func (w *walk) table(table *model.Table) {
 	columns := w.inputs(table.Inputs)
 	for at, output := range table.Outputs {
@@ -41,8 +41,8 @@ func (w *walk) table(table *model.Table) {
 // entry looks at an output entry or a default.
 func (w *walk) entry(text string, steps ...Step) { w.expression(steps, text, true) }
 
-// A tally are the cells of a column that compare with literals of a kind and that some value meets: how many, and the rule of the
-// last.
+// A tally counts the cells of a column that compare with literals of a kind and that some value meets, and keeps the rule of
+// the last.
 type tally struct {
 	kind        literalKind
 	count, last int
@@ -51,12 +51,12 @@ type tally struct {
 // A column is an input of a table, with what is known of its cells.
 type column struct {
 	tallies [textKind + 1]tally
-	// hasInterval says that some cell has an interval, any how many take every value.
+	// hasInterval means that some cell has an interval, any how many cells take every value.
 	hasInterval bool
 	any         int
-	// looks are the cells that may mean another thing than they look like.
+	// looks has the cells that may mean something other than they look like.
 	looks []looks
-	// asked is what it is, where it is known which literals come.
+	// asked is the column's value, if it is known which literals it may be.
 	asked   valueName
 	isAsked bool
 }
@@ -78,16 +78,16 @@ func (w *walk) inputs(texts []string) []*column {
 	return columns
 }
 
-// A ruleTests are the tests of a rule.
+// A ruleTests holds the tests of a rule.
 type ruleTests struct {
-	// takeAll says that each of them is met by every value.
+	// takeAll means that every value meets each test.
 	takeAll bool
-	// spelling are they in one spelling, so that those that differ in blanks, or in how a literal is written, are the same. It is
-	// empty where the hit policy doesn't ask for it.
+	// spelling is the tests in one spelling, so that blanks and how a literal is written don't matter. It is "" if the hit
+	// policy doesn't need it.
 	spelling string
 }
 
-// cells looks at the input entries of a rule, which are spelled where that is asked.
+// cells looks at a rule's input entries, and spells them if asked.
 func (w *walk) cells(columns []*column, rule int, texts []string, areSpelled bool) ruleTests {
 	all := ruleTests{takeAll: true}
 	var spelling strings.Builder
@@ -137,7 +137,7 @@ func (w *walk) cell(c *column, rule, at int, text string, tests strict.Tests) {
 	}
 }
 
-// column looks at what the cells of an input compare with.
+// column looks at what an input's cells compare with.
 func (w *walk) column(table *model.Table, at int, c *column) {
 	cell := func(rule int) (steps []Step, text string) {
 		return []Step{key("rules"), index(rule), key("when"), index(at)}, table.Rules[rule].When[at]
@@ -164,7 +164,8 @@ func (w *walk) column(table *model.Table, at int, c *column) {
 	}
 }
 
-// oddOne is the only cell of its kind and the cells of the other kind, where there are two kinds. Of two cells it is the later.
+// oddOne returns the only cell of its kind and the cells of the other kind, if there are two kinds. Of two cells the later is
+// odd.
 func (c *column) oddOne() (odd, other tally) {
 	var kinds []tally
 	for _, t := range c.tallies {
@@ -184,7 +185,7 @@ func (c *column) oddOne() (odd, other tally) {
 	return tally{}, tally{}
 }
 
-// A looks are what a cell looks like, and may not mean.
+// A looks is what a cell looks like and may not mean.
 type looks struct {
 	rule                                int
 	likeTruth, likeInterval, likeNumber bool
@@ -198,7 +199,7 @@ func looksOf(rule int, text string, tests []feel.Node) looks {
 	return l
 }
 
-// givesTruth tells whether an expression is true, false or null, whatever its names are.
+// givesTruth reports whether an expression is true, false or null, whatever its names are.
 func givesTruth(node feel.Node) bool {
 	switch of := node.(type) {
 	case *strict.Group:
@@ -214,7 +215,7 @@ func givesTruth(node feel.Node) bool {
 	return false
 }
 
-// isPair tells whether tests are a list of two numbers alone.
+// isPair reports whether tests are a list of exactly two numbers.
 func isPair(tests []feel.Node) bool {
 	if len(tests) != 1 {
 		return false
@@ -223,20 +224,20 @@ func isPair(tests []feel.Node) bool {
 	return ok && len(list.Items) == 2 && isNumber(list.Items[0]) && isNumber(list.Items[1])
 }
 
-// hasNumbersInARow tells whether a number comes behind a test that ends with one.
+// hasNumbersInARow reports whether a number follows a test that ends with one.
 func hasNumbersInARow(tests []feel.Node) bool {
-	isBehindNumber := false
+	isAfterNumber := false
 	for _, test := range tests {
-		if isBehindNumber && isNumber(test) {
+		if isAfterNumber && isNumber(test) {
 			return true
 		}
 		unary, isUnary := test.(*feel.Unary)
-		isBehindNumber = isNumber(test) || isUnary && isNumber(unary.Operand)
+		isAfterNumber = isNumber(test) || isUnary && isNumber(unary.Operand)
 	}
 	return false
 }
 
-// isCut tells whether a text has a number with a comma before its last three digits.
+// isCut reports whether a text has a number with a comma before its last three digits.
 func isCut(text string) bool {
 	digits := 0
 	for at := 0; at < len(text); at++ {
@@ -252,7 +253,7 @@ func isCut(text string) bool {
 	return false
 }
 
-// digitsAt is how many of the first four bytes of a text are digits, up to the first that is none.
+// digitsAt returns how many of a text's first four bytes are digits, up to the first other byte.
 func digitsAt(text string) int {
 	count := 0
 	for count < len(text) && count < 4 && strict.IsDigit(text[count]) {
@@ -284,7 +285,7 @@ func spell(to *strings.Builder, text string, tests strict.Tests) {
 	}
 }
 
-// spellTree adds the tokens of an expression, each behind a blank.
+// spellTree adds the tokens of an expression, each after a blank.
 func spellTree(to *strings.Builder, text string, node feel.Node) {
 	span := node.At()
 	part := text[span.Start:span.End]

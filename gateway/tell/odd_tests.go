@@ -8,16 +8,16 @@ import (
 	"gateway/feel/strict"
 )
 
-// Least and greatest are the numbers there are.
+// The least and the greatest number.
 const (
 	least    = -math.MaxInt64
 	greatest = math.MaxInt64
 )
 
-// A span are the numbers from one to another, both included; none where the first is greater.
+// A span holds the numbers from low to high, both included; none if low is greater.
 type span struct{ low, high int64 }
 
-// bounded are the numbers that are so to a number.
+// bounded returns the numbers that compare so with a number.
 func bounded(operator string, number int64) span {
 	switch {
 	case operator == "<":
@@ -34,7 +34,7 @@ func bounded(operator string, number int64) span {
 
 func (s span) isEmpty() bool { return s.low > s.high }
 
-// haveAllNumbers tells whether each number is in one of the spans.
+// haveAllNumbers reports whether each number is in one of the spans.
 func haveAllNumbers(spans []span) bool {
 	sort.Slice(spans, func(i, j int) bool { return spans[i].low < spans[j].low })
 	next := int64(least)
@@ -55,7 +55,7 @@ func haveAllNumbers(spans []span) bool {
 type literalTest struct {
 	kind  literalKind
 	isMet bool
-	// isNumbers says that it is met by these numbers.
+	// isNumbers means that these numbers meet the test.
 	isNumbers bool
 	numbers   span
 }
@@ -64,7 +64,7 @@ func testOfNumbers(numbers span) literalTest {
 	return literalTest{numberKind, !numbers.isEmpty(), true, numbers}
 }
 
-// literalTestOf is a test whose values are known; false of another one.
+// literalTestOf returns a test whose values are known; false for others.
 func literalTestOf(test feel.Node) (literalTest, bool) {
 	switch test := test.(type) {
 	case *feel.Unary:
@@ -111,7 +111,7 @@ func intervalTest(test *feel.Range, low, high strict.Value) literalTest {
 	return literalTest{kind: kind}
 }
 
-// between are the numbers of an interval.
+// between returns the numbers of an interval.
 func between(test *feel.Range, low, high int64) span {
 	above, below := bounded(">=", low), bounded("<=", high)
 	if test.LowOpen {
@@ -130,8 +130,8 @@ func between(test *feel.Range, low, high int64) span {
 	return s
 }
 
-// literalTests tells of an entry whose tests are all of literals their kind, where it is one, and whether some value meets them. It
-// is false of another entry.
+// literalTests returns the kind of an entry whose tests are all literals of one kind, and whether some value meets them. ok is
+// false for others.
 func literalTests(tests strict.Tests) (kind literalKind, areMet, ok bool) {
 	if tests.Any {
 		return noKind, false, false
@@ -157,7 +157,8 @@ func literalTests(tests strict.Tests) (kind literalKind, areMet, ok bool) {
 	return kind, areMet, true
 }
 
-// leaveNothing tells whether no value is left that meets none of the tests: numbers alone go by size, and each is met.
+// leaveNothing reports whether no value fails all of the tests: comparisons are only false for numbers, and every number meets a
+// test.
 func leaveNothing(tests []feel.Node) bool {
 	var spans []span
 	goBySize := false
@@ -175,7 +176,7 @@ func leaveNothing(tests []feel.Node) bool {
 	return goBySize && haveAllNumbers(spans)
 }
 
-// isBySize tells whether a test is one of an order.
+// isBySize reports whether a test is one of order.
 func isBySize(test feel.Node) bool {
 	switch test.(type) {
 	case *feel.Unary, *feel.Range:

@@ -1,6 +1,6 @@
 package tell
 
-// values notes the inputs and decisions that nothing needs or lists, and those that no output of a service leads to.
+// values notes inputs and decisions that nothing needs or lists, and those that no service output needs.
 func (w *walk) values() {
 	named, reached := w.uses()
 	note := func(steps []Step, name string) {
@@ -19,7 +19,7 @@ func (w *walk) values() {
 	}
 }
 
-// uses are the names that something needs or lists, and those that an output of a service needs, directly or through others.
+// uses returns the names that something needs or lists, and those that a service output needs, directly or through others.
 func (w *walk) uses() (named, reached set) {
 	named, reached = set{}, set{}
 	var waiting []string

@@ -2,10 +2,10 @@ package tell
 
 import "io"
 
-// mostKept is how many bytes of a text are kept while it is only seen how long it grows.
+// mostKept limits the bytes kept while a text is only measured.
 const mostKept = 4 << 20
 
-// A page is a text as it is written: to out, or else it is kept as far as it is short, and counted.
+// A page is a text being written to out. Without out it is counted, and kept while it is short.
 type page struct {
 	kept  []byte
 	count int
@@ -37,8 +37,8 @@ func (p *page) addByte(c byte) { _, _ = p.Write([]byte{c}) }
 
 func (p *page) addRune(letter rune) { p.WriteString(string(letter)) }
 
-// String is the text, where it is short.
+// String returns the text if it is short.
 func (p *page) String() string { return string(p.kept) }
 
-// isLong tells whether the text takes more bytes than that of an explanation may.
+// isLong reports whether the text has more bytes than an explanation may.
 func (p *page) isLong() bool { return p.count > mostExplained }

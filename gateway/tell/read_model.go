@@ -5,7 +5,7 @@ import (
 	"gateway/model"
 )
 
-// modelOf is the model that a value of a text stands for, as model.Of reads it; nil where it has not the form of one.
+// modelOf returns the model in a value, as model.Of reads it; nil if it doesn't have the form of one.
 func modelOf(doc *lines.Document, value lines.Node) *model.Model {
 	r := modelReader{doc: doc}
 	m := r.model(value)
@@ -15,14 +15,14 @@ func modelOf(doc *lines.Document, value lines.Node) *model.Model {
 	return m
 }
 
-// A modelReader reads a model. Its texts are pieces of the document's, but for those that have escapes.
+// A modelReader reads a model. Its texts are slices of the document's, except those with escapes.
 type modelReader struct {
 	doc *lines.Document
-	// isWrong says that something has not its form.
+	// isWrong means that something doesn't have its form.
 	isWrong bool
 }
 
-// The keys of objects: those that have to be there, and after them the optional ones.
+// The keys of objects: first the required, then the optional.
 var (
 	keysOfModel    = objectKeys{[]string{"inputs", "decisions", "services"}, 3}
 	keysOfDecision = objectKeys{[]string{"name", "needs", "expr"}, 3}
@@ -36,22 +36,22 @@ var (
 	keysOfRule     = objectKeys{[]string{"when", "then"}, 2}
 )
 
-// mostKeys is how many keys an object of a model has at most.
+// mostKeys is the largest number of keys in an object of a model.
 const mostKeys = 5
 
-// objectKeys are those of an object, of which the first so many have to be there.
+// An objectKeys holds the keys of an object, the required ones first.
 type objectKeys struct {
 	all      []string
 	required int
 }
 
-// values are those under the keys of an object, in their order.
+// A values holds the values under an object's keys, in order.
 type values struct {
 	nodes [mostKeys]lines.Node
 	has   [mostKeys]bool
 }
 
-// object gives the values of an object with these keys.
+// object returns the values of an object with these keys.
 func (r *modelReader) object(value lines.Node, keys objectKeys) (found values) {
 	members, isObject := r.doc.Keys(value)
 	r.isWrong = r.isWrong || !isObject
@@ -72,7 +72,7 @@ func (r *modelReader) object(value lines.Node, keys objectKeys) (found values) {
 	return found
 }
 
-// list are the items of a list; nil where something is wrong.
+// list returns the items of a list; nil if something is wrong.
 func (r *modelReader) list(value lines.Node) []lines.Node {
 	r.isWrong = r.isWrong || r.doc.Kind(value) != '['
 	if r.isWrong {

@@ -9,7 +9,7 @@ import (
 	"gateway/model"
 )
 
-// TestModelsAreReadAsTheModelPackageReads reads changed texts of a model both ways.
+// TestModelsAreReadAsTheModelPackageReads reads changed model texts both ways.
 func TestModelsAreReadAsTheModelPackageReads(t *testing.T) {
 	const whole = `{"inputs":["a"],"decisions":[{"name":"d","needs":["a"],"expr":{"list":["1",{"list":[]},{"context":[{"name":"x",` +
 		`"expr":"a"}],"result":"2"},{"table":{"hit":"P","inputs":["a"],"outputs":[{"name":"o","values":["\"\u00e9\""],"default":"1"},` +

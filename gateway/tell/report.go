@@ -8,22 +8,22 @@ import (
 	"gateway/feel/strict"
 )
 
-// A report is what is told of a model, as far as it is written: as a text for people, or as lines of JSON.
+// A report is a report about a model as far as it is written: text for people, or lines of JSON.
 type report struct {
 	format Format
-	// name is the path of the file; empty for standard input.
+	// name is the file's path; empty for standard input.
 	name string
-	// isRefused says that --strict refuses the model, where something was found of its tables; isStrictNull that --strict-null refuses
-	// a service that can give null or break a limit.
+	// isRefused means that --strict refuses the model if there are findings about its tables. isStrictNull means that
+	// --strict-null refuses a service that can give null or break a limit.
 	isRefused, isStrictNull bool
 	file                    *file
 	facts                   *facts
 	text                    []byte
 	lines                   *lineIndex
-	// requests are the lines behind the model.
+	// requests holds the lines after the model.
 	requests []byte
 	out      bytes.Buffer
-	// notices are what was found, where the format consists of them.
+	// notices holds the findings, if the format consists of them.
 	notices []Notice
 }
 
@@ -44,7 +44,7 @@ func (r *report) say(format string, values ...any) {
 	}
 }
 
-// faultSentences are what is said of the first fault.
+// faultSentences are the sentences for the first fault.
 var faultSentences = map[string]string{
 	"syntax": "no JSON text", "shape": "not the form of a model", "name": "a name is not lawful", "twice": "a name stands twice",
 	"expression": "a text has no reading", "table": "a decision table is refused", "unknown": "a needed name is unknown",
@@ -52,7 +52,7 @@ var faultSentences = map[string]string{
 	"domain": "a domain can't be taken",
 }
 
-// faulty tells a model that has a fault.
+// faulty reports a model with a fault.
 func (r *report) faulty() {
 	fault := r.facts.Fault
 	if r.format == JSON {
@@ -77,7 +77,7 @@ func (r *report) faulty() {
 	}
 }
 
-// mostLine is how many bytes a line may have.
+// mostLine is the largest length of a line in bytes.
 const mostLine = 1_048_576
 
 func (r *report) long() {
@@ -93,7 +93,7 @@ func (r *report) long() {
 	}
 }
 
-// syntax tells where a text stops to be JSON.
+// syntax reports where a text stops being JSON.
 func (r *report) syntax() {
 	stop := stopOf(r.text)
 	if stop == nil {
@@ -112,7 +112,7 @@ func (r *report) syntax() {
 	})
 }
 
-// shape tells where a value has not the form of a model.
+// shape reports where a value doesn't have the form of a model.
 func (r *report) shape() {
 	if r.file == nil {
 		return
@@ -120,7 +120,7 @@ func (r *report) shape() {
 	found, count := r.file.misshapes()
 	var once []misshape
 	for at, it := range found {
-		if !isToldAsMeant(it, found[at+1:]) {
+		if !isReportedAsMeant(it, found[at+1:]) {
 			once = append(once, it)
 		}
 	}
@@ -131,9 +131,9 @@ func (r *report) shape() {
 	r.head("shape", len(once)+more)
 	for _, it := range once {
 		words := r.file.shapeWords(it.place)
-		r.noticeAt(ofFault+"shape", Error, r.file.position(it.place), it.place.Pointer(), behindColon(words, it.said))
+		r.noticeAt(ofFault+"shape", Error, r.file.position(it.place), it.place.Pointer(), afterColon(words, it.said))
 		r.put(func() string {
-			return "  " + r.file.at(it.place) + behindColon(words, it.said) + "\n"
+			return "  " + r.file.at(it.place) + afterColon(words, it.said) + "\n"
 		}, func() string {
 			return object(nil).text("fault", "shape").text("pointer", it.place.Pointer()).text("place", words).text("said", it.said).
 				position(r.file.position(it.place)).line()
@@ -142,15 +142,15 @@ func (r *report) shape() {
 	r.more("shape", more)
 }
 
-// behindColon is a sentence behind the words of its place, where there are any.
-func behindColon(words, said string) string {
+// afterColon returns a sentence after the words of its place, if there are any.
+func afterColon(words, said string) string {
 	if words == "" {
 		return said
 	}
 	return words + ": " + said
 }
 
-// head tells how many places there are of a fault.
+// head reports how many places a fault has.
 func (r *report) head(fault string, count int) {
 	places := "places"
 	if count == 1 {
@@ -159,7 +159,7 @@ func (r *report) head(fault string, count int) {
 	r.say("%s: %d %s\n", fault, count, places)
 }
 
-// more tells how many places of a fault are not told.
+// more reports how many places of a fault are left out.
 func (r *report) more(fault string, more int) {
 	if more == 0 {
 		return
@@ -169,7 +169,7 @@ func (r *report) more(fault string, more int) {
 	r.noticeAt(kindName(ofFault, fault), Error, r.file.whole(), "", fmt.Sprintf("and %d more places", more))
 }
 
-// A group are the places of one fault: of tables those that are refused, and then their rules.
+// A group is the places of one fault. For tables it has the refused ones, then their rules.
 type group struct {
 	fault   string
 	isRules bool
@@ -177,7 +177,7 @@ type group struct {
 	more    int
 }
 
-// groups are the places that the engine told, one fault after another.
+// groups returns the places that the engine reported, one fault after another.
 func (r *report) groups() []group {
 	var groups []group
 	for _, it := range r.facts.places {
@@ -198,26 +198,26 @@ func (r *report) groups() []group {
 }
 
 func (r *report) group(of group) {
-	told := of.places
+	reported := of.places
 	if r.format != JSON {
-		told = nil
+		reported = nil
 		for _, place := range of.places {
-			if !r.file.isToldByParts(r.file.mistake(of.fault, place), place) {
-				told = append(told, place)
+			if !r.file.isReportedByParts(r.file.mistake(of.fault, place), place) {
+				reported = append(reported, place)
 			}
 		}
 	}
-	if len(told)+of.more == 0 {
+	if len(reported)+of.more == 0 {
 		return
 	}
-	r.head(of.fault, len(told)+of.more)
-	for before, place := range told {
+	r.head(of.fault, len(reported)+of.more)
+	for before, place := range reported {
 		r.place(of.fault, place, before)
 	}
 	r.more(of.fault, of.more)
 }
 
-// place tells a place of a fault, before which so many were told.
+// place reports a place of a fault. before is how many were reported before it.
 func (r *report) place(fault string, place Place, before int) {
 	said := r.file.mistake(fault, place)
 	text, isText := r.file.text(place)
@@ -233,7 +233,7 @@ func (r *report) place(fault string, place Place, before int) {
 	}
 	r.notice(kindName(ofFault, fault), Error, place, withHint(withHint(words, strings.TrimSpace(stopWords(text, stop))), hint))
 	r.put(func() string {
-		return "  " + r.file.at(place) + behindColon(r.file.words(place), words) + "\n" + stopWords(text, stop) + indented(hint)
+		return "  " + r.file.at(place) + afterColon(r.file.words(place), words) + "\n" + stopWords(text, stop) + indented(hint)
 	}, func() string {
 		o := object(nil).text("fault", fault).text("pointer", place.Pointer()).text("place", r.file.words(place)).text("said", said)
 		if isText {
@@ -246,7 +246,7 @@ func (r *report) place(fault string, place Place, before int) {
 	})
 }
 
-// withHint is a sentence with what helps after it, where there is something.
+// withHint returns a sentence with its hint, if there is one.
 func withHint(said, hint string) string {
 	if hint == "" {
 		return said
@@ -254,7 +254,7 @@ func withHint(said, hint string) string {
 	return said + "; " + hint
 }
 
-// indented is a line of what helps.
+// indented returns a hint as a line.
 func indented(hint string) string {
 	if hint == "" {
 		return ""

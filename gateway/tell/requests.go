@@ -12,49 +12,49 @@ import (
 	"gateway/model"
 )
 
-// mostNotes is how many notes on lines of requests are told.
+// mostNotes limits the notes about request lines.
 const mostNotes = 1_000
 
-// A note is what is told of a line of requests.
+// A note is a note about a request line.
 type note struct {
-	// word is that of what is odd, or by which the line is refused.
+	// word is the word of the oddity or refusal.
 	word string
-	// name is what it speaks of, and near another name that may be meant; a refusal has none.
+	// name is what the note is about, near a name that may be meant. A refusal has none.
 	name, near string
 	said       string
 }
 
-// A reading is what is known while lines of requests are read.
+// A reading is the state while request lines are read.
 type reading struct {
 	report *report
-	// doc is the line at hand.
+	// doc is the current line.
 	doc lines.Document
-	// refused are the lines that the engine refuses, by their numbers: the first 1,000, the last of which is this.
+	// refused has the refused lines by number: the first 1,000, up to last.
 	refused map[int]factNote
 	last    int
-	// services are those of the model in force, and names what they are called.
+	// services maps services of the current model to their parameters. names are the services' names.
 	services map[string]*parameterNames
 	names    *nameIndex
-	// used are the entries that its texts take of inputs.
+	// used has the entries that the model's texts take from inputs.
 	used map[string]*entryNames
-	// numbers are the values of which all tests ask for numbers.
+	// numbers has the values that are only tested as numbers.
 	numbers map[valueName]bool
-	// closed are the clients that were closed.
+	// closed has the closed clients.
 	closed set
-	// number is that of the line that is read, and isCounted says that the engine's count has its first note of a refusal.
+	// number is the current line's number. isCounted means that its first note of a refusal is in the engine's count.
 	number    int
 	isCounted bool
-	// told is how many notes were put, more how many others were not.
-	told, more int
+	// written is how many notes were written, more how many were not.
+	written, more int
 }
 
-// parameterNames are those of a service.
+// A parameterNames holds the parameters of a service.
 type parameterNames struct {
 	index *nameIndex
 	has   set
 }
 
-// notes tells what the engine refuses of the lines of requests, and what is odd in the others.
+// notes reports the request lines that the engine refuses, and oddities of the others.
 func (r *report) notes() {
 	if len(r.requests) == 0 {
 		return
@@ -79,9 +79,9 @@ func (r *report) notes() {
 }
 
 // isFull reports whether notes are only counted.
-func (r *reading) isFull() bool { return r.told >= mostNotes }
+func (r *reading) isFull() bool { return r.written >= mostNotes }
 
-// note puts a note of this word, or counts it where enough were put.
+// note writes a note with this word, or counts it if there are enough.
 func (r *reading) note(word string, say func() note) {
 	switch {
 	case r.isCounted && (word == "service" || word == "value"):
@@ -94,7 +94,7 @@ func (r *reading) note(word string, say func() note) {
 }
 
 func (r *reading) put(number int, it note) {
-	r.told++
+	r.written++
 	kind := kindName(ofRequests, it.word)
 	r.report.noticeAt(kind, catalogue[kind].level, Spot{Line: number, Column: 1}, "", it.said)
 	r.report.put(func() string { return fmt.Sprintf("line %d: %s\n", number, it.said) }, func() string {
@@ -102,7 +102,7 @@ func (r *reading) put(number int, it note) {
 	})
 }
 
-// take takes a model for the lines behind it.
+// take takes the model for the following lines.
 func (r *reading) take(m *model.Model) {
 	r.services, r.used, r.numbers = map[string]*parameterNames{}, entryNamesOf(usedEntries(m)), numbersAsked(m)
 	var names []string
@@ -114,7 +114,7 @@ func (r *reading) take(m *model.Model) {
 	r.names = &nameIndex{names: names}
 }
 
-// of puts the notes on a line.
+// of writes the notes about a line.
 func (r *reading) of(line []byte) {
 	if refused, is := r.refused[r.number]; is && refused.Note != "service" && refused.Note != "value" {
 		r.note(refused.Note, func() note { return note{word: refused.Note, said: refusal(refused, line)} })
@@ -144,8 +144,8 @@ func (r *reading) of(line []byte) {
 	})
 }
 
-// isRefused reports whether the engine refuses a request by its form or by its client. It counts such a line, also where it no
-// longer tells which it is.
+// isRefused reports whether the engine refuses a request for its form or its client. It counts such a line even if the engine
+// no longer says which it is.
 func (r *reading) isRefused(doc *lines.Document) bool {
 	name, hasName := doc.Member(doc.Whole, "client")
 	client, _ := doc.Text(name)
@@ -157,7 +157,7 @@ func (r *reading) isRefused(doc *lines.Document) bool {
 	return isAsked && (!isRequest || r.closed[client])
 }
 
-// asked is the service and the inputs of a request; false of another line.
+// asked returns the service and the inputs of a request; false for other lines.
 func asked(doc *lines.Document) (service string, inputs lines.Node, ok bool) {
 	under, isAsked := doc.Member(doc.Whole, "service")
 	inputs, hasInputs := doc.Member(doc.Whole, "inputs")
@@ -168,7 +168,7 @@ func asked(doc *lines.Document) (service string, inputs lines.Node, ok bool) {
 	return service, inputs, ok
 }
 
-// orMeant is a sentence with a name that may be meant.
+// orMeant returns a sentence with a name that may be meant.
 func orMeant(said, near string) string {
 	if near == "" {
 		return said
@@ -176,8 +176,8 @@ func orMeant(said, near string) string {
 	return said + ": " + near + "?"
 }
 
-// notesOf puts what is odd in the inputs of a request: the names that are no parameters, in the order of their bytes, and then
-// the parameters that are missing or have no value, in their order.
+// notesOf notes oddities in a request's inputs: first unknown names, sorted by bytes, then parameters that are missing or have
+// no value, in order.
 func (r *reading) notesOf(doc *lines.Document, service string, of *parameterNames, inputs []lines.Keyed) {
 	brought := make(map[string]lines.Node, len(inputs))
 	for _, input := range inputs {
@@ -192,7 +192,7 @@ func (r *reading) notesOf(doc *lines.Document, service string, of *parameterName
 		})
 	}
 	if r.isFull() {
-		// What is missing isn't looked at one by one: a model may have many more parameters than the line has inputs.
+		// Missing inputs are only counted: a model may have far more parameters than the line has inputs.
 		r.more += len(of.has) - len(brought)
 		for name, value := range brought {
 			r.notesOfValue(doc, name, value)
@@ -211,7 +211,7 @@ func (r *reading) notesOf(doc *lines.Document, service string, of *parameterName
 	}
 }
 
-// notesOfValue puts what is odd in what a request brings for a parameter.
+// notesOfValue notes oddities in the value of a parameter.
 func (r *reading) notesOfValue(doc *lines.Document, name string, value lines.Node) {
 	if why := noValue(doc.Go(value)); why != "" {
 		r.note("value", func() note {
@@ -222,7 +222,7 @@ func (r *reading) notesOfValue(doc *lines.Document, name string, value lines.Nod
 	r.texts(doc, name, value)
 }
 
-// noValue says why a JSON value is none of the engine's; empty where it is one.
+// noValue says why a JSON value is not one of the engine's; "" if it is.
 func noValue(value any) string {
 	m := measure{}
 	depth := m.of(value)
@@ -237,14 +237,14 @@ func noValue(value any) string {
 	return ""
 }
 
-// A measure is what the parts of a value are.
+// A measure holds facts about the parts of a value.
 type measure struct {
 	nodes int
-	// isBad says that a number is none of the engine's, hasFraction that one has a point or an exponent.
+	// isBad means that the engine doesn't take a number, hasFraction that a number has a point or an exponent.
 	isBad, hasFraction bool
 }
 
-// of measures a value, and gives its depth.
+// of measures a value, and returns its depth.
 func (m *measure) of(value any) (depth int) {
 	m.nodes++
 	deepest := 0
@@ -273,7 +273,7 @@ func (m *measure) of(value any) (depth int) {
 	return deepest + 1
 }
 
-// pastRange is a number past all that a value may have: a whole number that is far out of range is told as that.
+// pastRange is past all numbers of the engine. A whole number this large is reported as out of range.
 const pastRange = 9.3e18
 
 // refusal says why the engine refuses a line.
@@ -298,7 +298,7 @@ func refusal(refused factNote, line []byte) string {
 	return refused.Note
 }
 
-// misshapen says why a JSON value is none of the lines of `serve`.
+// misshapen says why a JSON value is not a line of `serve`.
 func misshapen(line []byte) string {
 	doc := lines.NewDocument(line)
 	if doc == nil || doc.Kind(doc.Whole) != '{' {
@@ -320,16 +320,16 @@ func misshapen(line []byte) string {
 
 const (
 	saidNoLine = "an object with client, service and inputs alone is due"
-	// mostMembers is how many members of an object are looked at.
+	// mostMembers limits the members of an object that are looked at.
 	mostMembers = 4
-	// mostName is how many bytes the name of a client may have.
+	// mostName limits the bytes of a client's name.
 	mostName = 64
 )
 
-// lineKeys are those of the lines of `serve`, in their order.
+// lineKeys are the keys of lines of `serve`, in order.
 var lineKeys = []string{"capacity", "client", "close", "inputs", "model", "resize", "service"}
 
-// dueOf is what is due of an object that is no line of `serve`.
+// dueOf says what an object lacks to be a line of `serve`.
 func dueOf(doc *lines.Document, members map[string]lines.Node) string {
 	has := func(key string) bool {
 		_, ok := members[key]

@@ -5,12 +5,12 @@ import (
 	"testing"
 )
 
-// persons is a model whose texts take entries of an input, and hides another one.
+// persons is a model whose texts take entries of one input and hide another.
 const persons = `{"inputs":["p","q"],"decisions":[{"name":"d","needs":["p"],"expr":{"table":{"hit":"F","inputs":["p.age"],"outputs":[{"name":"x"}],"rules":[{"when":["> p.least"],"then":["1"]}]}}},` +
 	`{"name":"e","needs":["q"],"expr":{"context":[{"name":"q","expr":"q"}],"result":"q.age"}}],` +
 	`"services":[{"name":"s","outputs":["d","e"],"encapsulated":[],"inputDecisions":[],"inputData":["p","q"]}]}`
 
-// TestMisspeltEntries tells entries of inputs that are nearly one that the model takes.
+// TestMisspeltEntries notes entries of inputs that are close to one that the model takes.
 func TestMisspeltEntries(t *testing.T) {
 	for _, row := range []struct{ inputs, due string }{
 		{`{"p":{"age":1,"least":2},"q":1}`, ""},
@@ -21,10 +21,10 @@ func TestMisspeltEntries(t *testing.T) {
 		{`{"p":7,"q":1}`, ""},
 	} {
 		input := persons + "\n" + `{"client":"c","service":"s","inputs":` + row.inputs + "}\n"
-		told, err := Told(CheckOptions{Requests: true}, []byte(input), []byte(`{"lawful":true}`))
-		_, behind, _ := strings.Cut(string(told), "s(p, q)\n")
-		if err != nil || behind != row.due {
-			t.Errorf("%s: %v, %q, and %q is due", row.inputs, err, behind, row.due)
+		reported, err := Told(CheckOptions{Requests: true}, []byte(input), []byte(`{"lawful":true}`))
+		_, after, _ := strings.Cut(string(reported), "s(p, q)\n")
+		if err != nil || after != row.due {
+			t.Errorf("%s: %v, %q, and %q is due", row.inputs, err, after, row.due)
 		}
 	}
 }

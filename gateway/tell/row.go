@@ -7,10 +7,10 @@ import (
 	"gateway/model"
 )
 
-// Rows writes how answers came about, each as a text for people.
+// Rows writes explanations of answers as text.
 type Rows struct{ explainer explainer }
 
-// RowsOf writes what is told of answers of a model, which has the names of these.
+// RowsOf explains answers of a model, whose names it uses.
 func RowsOf(m *model.Model) *Rows {
 	r := &Rows{explainer{decisions: map[string]*model.Decision{}}}
 	for at := range m.Decisions {
@@ -19,7 +19,7 @@ func RowsOf(m *model.Model) *Rows {
 	return r
 }
 
-// Write writes a line in the form of `desk explain`, without client, ticket and model.
+// Write writes a line that has the form of `desk explain`, without client, ticket and model.
 func (r *Rows) Write(line []byte, out io.Writer) error {
 	if err := r.explainer.worded(line, out); err != nil {
 		return fmt.Errorf("wording an explanation: %w", err)

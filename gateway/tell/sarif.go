@@ -8,7 +8,7 @@ import (
 	"path/filepath"
 )
 
-// The parts of a log of SARIF 2.1.0 that are written, by its own names.
+// The parts of a SARIF 2.1.0 log that are written, with SARIF's names.
 type (
 	sarifLog struct {
 		Schema  string     `json:"$schema"`
@@ -68,7 +68,7 @@ type (
 
 const sarifSchema = "https://docs.oasis-open.org/sarif/sarif/v2.1.0/errata01/os/schemas/sarif-schema-2.1.0.json"
 
-// sarif is a log of SARIF with a rule for each kind of the catalogue, and a result for each notice.
+// sarif returns a SARIF log with a rule for each kind of the catalogue and a result for each notice.
 func sarif(notices []Notice, version string) ([]byte, error) {
 	driver := sarifDriver{Name: "desk", Version: version}
 	ranks := map[string]int{}
@@ -100,7 +100,7 @@ func sarif(notices []Notice, version string) ([]byte, error) {
 	return text.Bytes(), nil
 }
 
-// locationOf is the location of a notice; nil where nothing is known of it.
+// locationOf returns the location of a notice; nil if unknown.
 func locationOf(n Notice) *sarifLocation {
 	location := &sarifLocation{}
 	if n.Spot.File != "" {
@@ -118,11 +118,11 @@ func locationOf(n Notice) *sarifLocation {
 	return location
 }
 
-// uriOf is the reference of a file: relative as its path is, or absolute.
+// uriOf returns the reference of a file, relative or absolute as its path is.
 func uriOf(path string) string {
 	if filepath.IsAbs(path) {
 		return (&url.URL{Scheme: "file", Path: path}).String()
 	}
-	// A colon in the first part would be that of a scheme; String puts "./" before it.
+	// A colon in the first part would end a scheme; String puts "./" before it.
 	return (&url.URL{Path: filepath.ToSlash(path)}).String()
 }

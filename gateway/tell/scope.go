@@ -8,10 +8,10 @@ type binding struct {
 	hides int
 }
 
-// A scope are the names that are bound, one after another.
+// A scope holds the bound names, one after another.
 type scope struct {
 	bindings []binding
-	// numbers are the bindings of each name that count.
+	// numbers has the visible binding of each name.
 	numbers map[string]int
 }
 
@@ -39,7 +39,7 @@ func (s *scope) unbind(count int) {
 	}
 }
 
-// use notes that a name is used, and tells whether it is bound.
+// use notes that a name is used, and reports whether it is bound.
 func (s *scope) use(name string) bool {
 	number, isBound := s.numbers[name]
 	if isBound {
@@ -50,7 +50,7 @@ func (s *scope) use(name string) bool {
 
 func (s *scope) isUsed(number int) bool { return s.bindings[number].isUsed }
 
-// near is the first name in scope that is near.
+// near returns the first name in scope that is near.
 func (s *scope) near(name string) string {
 	for _, binding := range s.bindings {
 		if isNear(binding.name, name) {

@@ -5,10 +5,10 @@ import (
 	"gateway/feel/strict"
 )
 
-// A valueName is a name, or an entry of what it stands for.
+// A valueName is a name, or an entry of its value.
 type valueName struct{ name, entry string }
 
-// eachName hands the names that a form uses to take, in the order of the text, each with the entry that is taken of its value.
+// eachName calls take with the names in a form, in text order, each with the entry taken of its value.
 func eachName(node feel.Node, take func(valueName)) { eachNameOf(node, "", take) }
 
 func eachNameOf(node feel.Node, entry string, take func(valueName)) {
@@ -24,7 +24,7 @@ func eachNameOf(node feel.Node, entry string, take func(valueName)) {
 	}
 }
 
-// eachComparison hands the values that a form compares with = or != with others to take, each with the other.
+// eachComparison calls take with the values that a form compares with = or !=, each with the other side.
 func eachComparison(node feel.Node, take func(subject valueName, with feel.Node)) {
 	if of, ok := node.(*feel.Binary); ok && (of.Operator == "=" || of.Operator == "!=") {
 		if subject, ok := subjectOf(of.Left); ok {
@@ -37,7 +37,7 @@ func eachComparison(node feel.Node, take func(subject valueName, with feel.Node)
 	eachPart(node, func(part feel.Node) { eachComparison(part, take) })
 }
 
-// addsText tells whether a form adds a text in quotes.
+// addsText reports whether a form adds a text in quotes.
 func addsText(node feel.Node) bool {
 	adds := false
 	if of, ok := node.(*feel.Chain); ok {
@@ -49,7 +49,7 @@ func addsText(node feel.Node) bool {
 	return adds
 }
 
-// subjectOf is the value that an expression is; false where it is none with a name.
+// subjectOf returns the named value that an expression is; false if it is none.
 func subjectOf(node feel.Node) (valueName, bool) {
 	entry := ""
 	for {
@@ -77,7 +77,7 @@ func isText(node feel.Node) bool {
 	return ok
 }
 
-// eachPart hands the forms that a form is made of to take, in the order of the text.
+// eachPart calls take with the parts of a form, in text order.
 func eachPart(node feel.Node, take func(feel.Node)) {
 	switch of := node.(type) {
 	case *strict.Group:

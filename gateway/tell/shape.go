@@ -2,7 +2,7 @@ package tell
 
 import "gateway/lines"
 
-// A form is what a part of a model is to be.
+// A form is the required form of a part of a model.
 type form struct {
 	due string
 	// required and optional are the keys of an object.
@@ -36,21 +36,21 @@ var (
 )
 
 const (
-	// mostPlaces is how many places of a fault are told.
+	// mostPlaces limits the places reported for a fault.
 	mostPlaces = 100
-	// mostBoxes is how many boxes may be in each other.
+	// mostBoxes limits how deep boxes are nested.
 	mostBoxes = 128
 )
 
-// A misshape is a place that has not the form of a model.
+// A misshape is a place that doesn't have the form of a model.
 type misshape struct {
 	place Place
 	said  string
-	// missing is the key that is missing, meant the one that is meant by a key that isn't known.
+	// missing is the missing key, meant the key that an unknown key may mean.
 	missing, meant string
 }
 
-// A shaper looks for what has not the form of a model.
+// A shaper looks for misshapes.
 type shaper struct {
 	doc   *lines.Document
 	place Place
@@ -58,7 +58,7 @@ type shaper struct {
 	count int
 }
 
-// misshapes are the first places of a file that have not the form of a model, and how many there are.
+// misshapes returns the first misshapes of a file, and how many there are.
 func (f *file) misshapes() ([]misshape, int) {
 	s := shaper{doc: f.doc}
 	s.model(f.root)
@@ -89,14 +89,14 @@ func (s *shaper) noteTooDeep() {
 
 func (s *shaper) isTooDeep() bool { return len(s.place) >= lines.MaxNesting }
 
-// within looks at a part at a step from here.
+// within looks at the part that a step leads to.
 func (s *shaper) within(step Step, look func()) {
 	s.place = append(s.place, step)
 	look()
 	s.place = s.place[:len(s.place)-1]
 }
 
-// members are those of an object of this form; false where it is none.
+// members returns the members of an object of this form; false if it is none.
 func (s *shaper) members(of form, part lines.Node) (map[string]lines.Node, bool) {
 	if s.doc.Kind(part) != '{' {
 		s.noteDue(of, part)
@@ -134,7 +134,7 @@ func (s *shaper) noteSurplus(of form, members map[string]lines.Node, surplus str
 	s.note(misshape{said: orNear(quoted(surplus)+" is no key of it", meant), meant: meant})
 }
 
-// each looks at each item of a list of this form under a key.
+// each looks at each item of the list of this form under a key.
 func (s *shaper) each(members map[string]lines.Node, under string, of form, look func(part lines.Node)) {
 	part, ok := members[under]
 	if !ok {
@@ -209,7 +209,7 @@ func (s *shaper) logicUnder(members map[string]lines.Node, under string, boxes i
 	}
 }
 
-// logic looks at a boxed expression, in which so many boxes may still be in each other.
+// logic looks at a boxed expression that may nest this many more boxes.
 func (s *shaper) logic(part lines.Node, boxes int) {
 	if s.doc.Kind(part) == '"' {
 		return
@@ -240,7 +240,7 @@ func (s *shaper) logic(part lines.Node, boxes int) {
 	}
 }
 
-// boxedForm is the form that a boxed expression is to have, by its keys.
+// boxedForm returns the form due to a boxed expression with these keys.
 func (s *shaper) boxedForm(part lines.Node) form {
 	for _, of := range []form{formBox, formList, formContext} {
 		if _, ok := s.doc.Member(part, of.required[0]); ok {
@@ -283,12 +283,12 @@ func (s *shaper) rule(part lines.Node) {
 	}
 }
 
-// isToldAsMeant tells whether a missing key is told by one behind it that is written otherwise.
-func isToldAsMeant(of misshape, behind []misshape) bool {
+// isReportedAsMeant reports whether a later misshape covers a missing key, because the key is there with other spelling.
+func isReportedAsMeant(of misshape, later []misshape) bool {
 	if of.missing == "" {
 		return false
 	}
-	for _, other := range behind {
+	for _, other := range later {
 		if other.place.Pointer() != of.place.Pointer() {
 			return false
 		}
@@ -299,7 +299,7 @@ func isToldAsMeant(of misshape, behind []misshape) bool {
 	return false
 }
 
-// shapeWords are the words of a place that has not the form of a model: those of the place, and its last key.
+// shapeWords returns the words of a misshape: those of its place, and its last key.
 func (f *file) shapeWords(place Place) string {
 	words := f.words(place)
 	if len(place) == 0 || place.endsWithIndex() {

@@ -10,18 +10,18 @@ import (
 )
 
 const (
-	// mostParts is how many parts of a value are shown, mostLetters how many letters of a text.
+	// mostParts limits the parts shown of a value, mostLetters the letters of a text.
 	mostParts, mostLetters = 200, 200
-	// mostExplained is how many bytes the text of an explanation takes, as its decisions in JSON.
+	// mostExplained limits the bytes of an explanation's text, and of its decisions in JSON.
 	mostExplained = 64 << 20
 )
 
-// A members are those of a JSON object: keys and values by turns, as they are written.
+// A members holds the keys and values of a JSON object, alternating, as written.
 type members [][]byte
 
 func membersOf(raw []byte) members { return lines.Parts(raw) }
 
-// get is the value under a key; nil where there is none.
+// get returns the value under a key, or nil.
 func (m members) get(key string) []byte {
 	for at := 0; at+1 < len(m); at += 2 {
 		if inner(m[at]) == key {
@@ -31,7 +31,7 @@ func (m members) get(key string) []byte {
 	return nil
 }
 
-// inner is what is between the quotes of a string; escapes stay.
+// inner returns what is between the quotes of a string, with its escapes.
 func inner(raw []byte) string {
 	if len(raw) < 2 {
 		return ""
@@ -41,7 +41,7 @@ func inner(raw []byte) string {
 
 func (m members) text(key string) string { return inner(m.get(key)) }
 
-// number is that under a key; 0 where there is none.
+// number returns the number under a key, or 0.
 func (m members) number(key string) uint64 {
 	number, _ := strconv.ParseUint(string(m.get(key)), 10, 64)
 	return number
@@ -51,21 +51,20 @@ func (m members) isTrue(key string) bool { return string(m.get(key)) == "true" }
 
 func (m members) list(key string) [][]byte { return lines.Parts(m.get(key)) }
 
-// addMore adds how many more there are than these many.
+// addMore adds how many more there are than most.
 func addMore(to *page, count, most int) {
 	if count > most {
 		fmt.Fprintf(to, ".. %d more", count-most)
 	}
 }
 
-// addShown adds a value in JSON, in which names have no quotes where they are words. Of one with many parts the first are there, and
-// of a text the first letters, each with how many more there are.
+// addShown adds a JSON value. Names that are words have no quotes. Long values and texts are cut, with how much more there is.
 func addShown(to *page, value []byte) {
 	left := mostParts
 	addValue(to, value, &left)
 }
 
-// addValue adds a value as far as so many parts are left.
+// addValue adds a value while parts are left.
 func addValue(to *page, value []byte, left *int) {
 	if *left > 0 {
 		*left--
@@ -83,7 +82,7 @@ func addValue(to *page, value []byte, left *int) {
 	}
 }
 
-// firstParts are the first parts of a list or an object, as many as may be shown, and how many there are.
+// firstParts returns the first parts of a list or object, up to the limit, and how many there are.
 func firstParts(value []byte) (first [][]byte, count int) {
 	lines.EachPart(value, func(part []byte) {
 		if count++; count <= 2*mostParts+2 {
@@ -131,13 +130,13 @@ func addText(to *page, inner string) {
 	addMore(to, addQuoted(to, inner, mostLetters), mostLetters)
 }
 
-// addExpression adds an expression of FEEL, cut as a text is.
+// addExpression adds a FEEL expression, cut as a text is.
 func addExpression(to *page, source string) {
 	addSource(to, source, mostLetters)
 	addMore(to, utf8.RuneCountInString(source), mostLetters)
 }
 
-// addName adds a name: a word as it is, any other in quotes.
+// addName adds a name, in quotes unless it is a word.
 func addName(to *page, name string) {
 	if name != "" && !strict.IsDigit(name[0]) && word(name) == name {
 		to.WriteString(name)

@@ -11,8 +11,8 @@ import (
 
 var errNoModel = errors.New("the engine reads a model where this program reads none")
 
-// lawful tells a model without a fault.
-func (r *report) lawful() error {
+// valid reports a model without a fault.
+func (r *report) valid() error {
 	if r.file == nil || r.file.model == nil {
 		return errNoModel
 	}
@@ -41,12 +41,12 @@ func kindOfLogic(logic model.Expression) string {
 	return "expression"
 }
 
-// parameters are the names that a request to a service may bring.
+// parameters returns the names that a request to a service may bring.
 func parameters(service *model.Service) []string {
 	return append(append([]string(nil), service.InputDecisions...), service.InputData...)
 }
 
-// summary is the first part of what people are told of a lawful model.
+// summary returns the first part of the report about a valid model.
 func summary(m *model.Model, gives *givesFacts) string {
 	var text strings.Builder
 	fmt.Fprintf(&text, "lawful\ninputs: %s\ndecisions:\n", strings.Join(m.Inputs, ", "))
@@ -61,7 +61,7 @@ func summary(m *model.Model, gives *givesFacts) string {
 	return text.String()
 }
 
-// jsonSummary is the same as a line of JSON.
+// jsonSummary returns the same as a line of JSON.
 func jsonSummary(m *model.Model) string {
 	decisions, services := []string{}, []string{}
 	for _, decision := range m.Decisions {
@@ -76,7 +76,7 @@ func jsonSummary(m *model.Model) string {
 		raw("services", "["+strings.Join(services, ",")+"]").line()
 }
 
-// listOf is a list of texts in JSON.
+// listOf returns a JSON list of texts.
 func listOf(texts []string) string {
 	list := []byte{'['}
 	for at, text := range texts {

@@ -12,10 +12,10 @@ import (
 	"gateway/model"
 )
 
-// TableLines are what the engine found of the tables of a model, as the lines of `desk check --json --tables`.
-func TableLines(text []byte, found []json.RawMessage) (told []json.RawMessage, err error) {
+// TableLines words the engine's findings about a model's tables as `desk check --json --tables` does.
+func TableLines(text []byte, found []json.RawMessage) (reported []json.RawMessage, err error) {
 	defer recovered(&err)
-	told = []json.RawMessage{}
+	reported = []json.RawMessage{}
 	output := []byte("{\"lawful\":true}\n")
 	for _, line := range found {
 		output = append(append(output, line...), '\n')
@@ -33,10 +33,10 @@ func TableLines(text []byte, found []json.RawMessage) (told []json.RawMessage, e
 	}
 	for _, line := range bytes.SplitAfter(r.out.Bytes(), []byte("\n")) {
 		if len(line) > 0 {
-			told = append(told, line[:len(line)-1])
+			reported = append(reported, line[:len(line)-1])
 		}
 	}
-	return told, nil
+	return reported, nil
 }
 
 // lines writes the lines of a table: one about it, and one for each finding.
@@ -114,7 +114,7 @@ func (t *tableReport) line(columns *columns, f *factFinding) {
 	t.out.WriteString(line.line())
 }
 
-// array is an array of what is JSON already.
+// array returns an array of JSON values.
 func array(items []json.RawMessage) json.RawMessage {
 	all := []byte{'['}
 	for at, item := range items {
@@ -134,7 +134,7 @@ func numbers(all []int) string {
 	return string(array(items))
 }
 
-// pieces are the parts of a cell as JSON.
+// pieces returns the parts of a cell as JSON.
 func (c *cell) pieces() (all []json.RawMessage) {
 	add := func(piece string) { all = append(all, json.RawMessage(piece)) }
 	for _, s := range c.numbers {
@@ -192,26 +192,25 @@ func (r textRun) json() string {
 	return string(append(o, '}'))
 }
 
-// columns are the input columns of a table, each with the names that lead to its value: that of an input of the model, and of
-// entries in it.
+// A columns holds the input columns of a table, each with the path to its value: an input of the model, and entries in it.
 type columns struct {
 	ways [][]string
-	// isFree says that each is an input or a path of one, of its own: then a request can give each any value.
+	// isFree means that each column is an input or its path, and that all differ: a request can then give each any value.
 	isFree bool
 }
 
 func (t *tableReport) columns() *columns {
 	c := &columns{isFree: true}
-	standing, taken := t.file.standing(t.place), map[string]any{}
+	inScope, taken := t.file.inScope(t.place), map[string]any{}
 	for _, input := range t.table.Inputs {
 		way := wayOf(input)
 		c.ways = append(c.ways, way)
-		c.isFree = c.isFree && len(way) > 0 && standing[way[0]] && put(taken, way, json.RawMessage("null"))
+		c.isFree = c.isFree && len(way) > 0 && inScope[way[0]] && put(taken, way, json.RawMessage("null"))
 	}
 	return c
 }
 
-// wayOf are the names that lead to the value of an expression; none where it is no name and no path of one.
+// wayOf returns the path of an expression; none if it is not a name or path.
 func wayOf(input string) []string {
 	node, ok := strict.ReadExpression(input)
 	var way []string
@@ -228,7 +227,7 @@ func wayOf(input string) []string {
 	return nil
 }
 
-// put puts a value where a way leads to; false where something is there.
+// put puts a value at the end of a path; false if something is there.
 func put(object map[string]any, way []string, value any) bool {
 	for ; len(way) > 1; way = way[1:] {
 		inner, is := object[way[0]]
@@ -247,7 +246,7 @@ func put(object map[string]any, way []string, value any) bool {
 	return true
 }
 
-// inputs are the inputs of a request under which the columns have these values.
+// inputs returns request inputs that give the columns these values.
 func (c *columns) inputs(values []json.RawMessage) json.RawMessage {
 	all := map[string]any{}
 	for at, way := range c.ways {
@@ -258,7 +257,7 @@ func (c *columns) inputs(values []json.RawMessage) json.RawMessage {
 	return appendSorted(nil, all)
 }
 
-// appendSorted adds an object with its members in the order of their keys.
+// appendSorted adds an object, its members sorted by key.
 func appendSorted(to []byte, object map[string]any) []byte {
 	to = append(to, '{')
 	for at, key := range lines.Keys(object) {
@@ -276,9 +275,9 @@ func appendSorted(to []byte, object map[string]any) []byte {
 	return append(to, '}')
 }
 
-// standing are the inputs of the model that a name stands for where a table is: those that its decision needs, and that no entry
-// before it in a context around it hides.
-func (f *file) standing(place Place) set {
+// inScope returns the inputs of the model that are visible at a table: its decision needs them, and no entry before it in an
+// enclosing context hides them.
+func (f *file) inScope(place Place) set {
 	decision := &f.model.Decisions[place[1].Index]
 	names, inputs := set{}, setOf(f.model.Inputs)
 	for _, need := range decision.Needs {
@@ -303,7 +302,7 @@ func (f *file) standing(place Place) set {
 	return names
 }
 
-// hide takes away the names of entries.
+// hide removes the names of entries.
 func (s set) hide(entries []model.Entry) {
 	for at := range entries {
 		delete(s, entries[at].Name)

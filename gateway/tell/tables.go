@@ -9,13 +9,13 @@ import (
 )
 
 const (
-	// mostRules is how many rules are told in a line.
+	// mostRules limits the rules named in a line.
 	mostRules = 10
 )
 
 var errNoTable = errors.New("the engine tells of a table that is none")
 
-// tables tells what was found of the decision tables.
+// tables reports the findings about decision tables.
 func (r *report) tables() error {
 	for _, facts := range r.facts.tables {
 		place := placeOf(facts.Table)
@@ -24,7 +24,7 @@ func (r *report) tables() error {
 			return errNoTable
 		}
 		t := &tableReport{report: r, facts: facts, table: table, place: place}
-		write := t.tell
+		write := t.paragraph
 		if r.format == JSON {
 			write = t.lines
 		}
@@ -32,27 +32,28 @@ func (r *report) tables() error {
 			return err
 		}
 	}
-	if untold := r.facts.untold; untold > 0 {
-		r.put(func() string { return fmt.Sprintf("and %d tables more\n", untold) },
-			func() string { return object(nil).raw("table", "null").number("more", untold).line() })
-		r.noticeAt(ofTable+"more", Note, r.file.whole(), "", fmt.Sprintf("and %d tables more", untold))
+	if unreported := r.facts.unreported; unreported > 0 {
+		r.put(func() string { return fmt.Sprintf("and %d tables more\n", unreported) },
+			func() string { return object(nil).raw("table", "null").number("more", unreported).line() })
+		r.noticeAt(ofTable+"more", Note, r.file.whole(), "", fmt.Sprintf("and %d tables more", unreported))
 	}
 	return nil
 }
 
-// A tableReport is what is told of one table.
+// A tableReport is the report about one table.
 type tableReport struct {
 	*report
 	facts *factTable
 	table *model.Table
 	place Place
-	// kinds are those that the tests of each column ask for, names what the columns are called, columns whether requests give them.
+	// kinds are those that each column's tests ask for, names the columns' names. inputs says whether requests
+	// give them.
 	kinds  []kinds
 	names  []string
 	inputs *columns
 }
 
-func (t *tableReport) tell() error {
+func (t *tableReport) paragraph() error {
 	tests := testsOf(t.table)
 	t.inputs = t.columns()
 	for at, input := range t.table.Inputs {
@@ -71,7 +72,7 @@ func (t *tableReport) tell() error {
 	return nil
 }
 
-// columnName is what a column is called: a name or a path as it is, any other expression in quotes.
+// columnName returns the name of a column: a name or path as it is, other expressions in quotes.
 func columnName(input string) string {
 	if way := wayOf(input); way != nil {
 		return strings.Join(way, ".")
@@ -82,7 +83,7 @@ func columnName(input string) string {
 func isTrue(answer *bool) bool  { return answer != nil && *answer }
 func isFalse(answer *bool) bool { return answer != nil && !*answer }
 
-// completeness is the widest of what is complete.
+// completeness returns the widest scope that is complete.
 func (t *tableReport) completeness() string {
 	switch f := t.facts; {
 	case isTrue(f.Complete):
@@ -97,7 +98,7 @@ func (t *tableReport) completeness() string {
 	return "not decided"
 }
 
-// hasOverlaps tells whether overlaps count under the hit policy.
+// hasOverlaps reports whether overlaps matter under the hit policy.
 func (t *tableReport) hasOverlaps() bool { return t.table.Hit == "U" || t.table.Hit == "A" }
 
 func (t *tableReport) overlapWords() string {
@@ -112,7 +113,8 @@ func (t *tableReport) overlapWords() string {
 	return ", overlaps not decided"
 }
 
-// findings tells the findings in the engine's order, and behind the gaps which columns have none for other kinds of values.
+// findings reports the findings in the engine's order. After the gaps it says which columns have none for other kinds of
+// values.
 func (t *tableReport) findings() {
 	rest := rest{columns: make([]bool, len(t.kinds))}
 	for _, kind := range []struct {
@@ -128,10 +130,10 @@ func (t *tableReport) findings() {
 	}
 }
 
-// otherKinds is the kind of a notice that no rule hits for other kinds of values than those asked.
+// otherKinds is the notice kind for gaps among other kinds of values than those asked.
 const otherKinds = "other-kinds"
 
-// noticeOf is a finding as a notice: at the rule that it is about, the later one of two that overlap, or at its table.
+// noticeOf turns a finding into a notice at its rule, at the later of two that overlap, or at its table.
 func (t *tableReport) noticeOf(kind string, rules []int, said string) {
 	place, level := t.place, Warning
 	switch {
@@ -149,13 +151,13 @@ func (t *tableReport) noticeOf(kind string, rules []int, said string) {
 	t.tableNotice(kind, level, place, said)
 }
 
-// tableNotice keeps a finding at the table or at a part of it, which is called by its decision, context or list.
+// tableNotice keeps a finding at the table or a part of it, which is named by its decision, context or list.
 func (t *tableReport) tableNotice(kind string, level Level, place Place, said string) {
 	owner := place
 	if len(place) == len(t.place) {
 		owner = place[:len(place)-1]
 	}
-	t.noticeAt(ofTable+kind, level, t.file.position(place), place.Pointer(), behindColon(t.file.words(owner), said))
+	t.noticeAt(ofTable+kind, level, t.file.position(place), place.Pointer(), afterColon(t.file.words(owner), said))
 }
 
 func (t *tableReport) overlap(f *factFinding) []string {
@@ -166,7 +168,7 @@ func (t *tableReport) overlap(f *factFinding) []string {
 	return append(parts, t.table.Hit+" gives null")
 }
 
-// cells are the values of each column in a finding.
+// cells returns the values of each column in a finding.
 func (t *tableReport) cells(f *factFinding) string {
 	var text strings.Builder
 	for at := range f.Cells {
@@ -183,7 +185,7 @@ func (t *tableReport) cells(f *factFinding) string {
 	return text.String()
 }
 
-// unsure says that it is not known whether the columns can have the values of a finding.
+// unsure says that the columns may not be able to have the values of a finding.
 func (t *tableReport) unsure() []string {
 	if t.inputs.isFree {
 		return nil
@@ -191,14 +193,14 @@ func (t *tableReport) unsure() []string {
 	return []string{"if the columns can take these values together"}
 }
 
-// A rest is what the gaps among other kinds of values than those asked have in common.
+// A rest is what the gaps among other kinds of values have in common.
 type rest struct {
-	// columns are those that have no rule for other kinds, hasNull says that null is one of these.
+	// columns are those without a rule for other kinds; hasNull means that null is one of these.
 	columns []bool
 	hasNull bool
 }
 
-// gap tells a gap among the kinds of values that are asked.
+// gap reports a gap among the kinds of values that are asked.
 func (t *tableReport) gap(f *factFinding) []string {
 	if f.Finding != "gap" || isFalse(f.IsAsked) {
 		return nil
@@ -218,7 +220,7 @@ func (t *tableReport) gap(f *factFinding) []string {
 	return append(parts, "null")
 }
 
-// gatherer gathers what all gaps have in common, and tells it behind the last.
+// gatherer gathers what all gaps have in common, and reports it after the last.
 func (r *rest) gatherer(t *tableReport) func(*factFinding) []string {
 	left := 0
 	for _, finding := range t.facts.findings {
@@ -238,7 +240,7 @@ func (r *rest) gatherer(t *tableReport) func(*factFinding) []string {
 	}
 }
 
-// hasDefault tells whether some output has a default.
+// hasDefault reports whether some output has a default.
 func (t *tableReport) hasDefault() bool {
 	for _, output := range t.table.Outputs {
 		if output.Default != nil {
@@ -248,8 +250,8 @@ func (t *tableReport) hasDefault() bool {
 	return false
 }
 
-// gather notes the columns of a gap that have values of other kinds than those asked, and lack some that are asked: a column that
-// has them all says nothing of its own.
+// gather notes the columns of a gap that have other kinds of values and lack some that are asked. A column that has all of
+// these says nothing.
 func (t *tableReport) gather(rest *rest, f *factFinding) {
 	for at := range f.Cells {
 		if at >= len(t.kinds) {
@@ -305,7 +307,7 @@ func (t *tableReport) masked(f *factFinding) []string {
 	return []string{fmt.Sprintf("rule %d never decides: %s %s", f.Rules[0], ruleNumbers(f.Before), before)}
 }
 
-// ruleNumbers are the numbers of rules, as "rules 2, 3 and 5".
+// ruleNumbers returns the numbers of rules, as in "rules 2, 3 and 5".
 func ruleNumbers(rules []int) string {
 	if len(rules) == 1 {
 		return fmt.Sprintf("rule %d", rules[0])
@@ -327,7 +329,7 @@ func ruleNumbers(rules []int) string {
 	return text.String()
 }
 
-// allMore tells how many findings of each kind are not told.
+// allMore reports how many findings of each kind are left out.
 func (t *tableReport) allMore() {
 	for _, kind := range []struct {
 		finding, words string

@@ -2,12 +2,12 @@ package tell
 
 import "strings"
 
-// A toldRules are the rules of which what was found of the tables tells something, by the pointers of their tables.
-type toldRules map[string]map[int]set
+// A reportedRules has the rules about which findings report something, by table pointer.
+type reportedRules map[string]map[int]set
 
-// toldByTables are the kinds of warnings that the findings of the tables tell again, of each rule.
-func (r *report) toldByTables() toldRules {
-	told := toldRules{}
+// reportedByTables returns, for each rule, the kinds of warnings that table findings repeat.
+func (r *report) reportedByTables() reportedRules {
+	reported := reportedRules{}
 	for _, table := range r.facts.tables {
 		rules := map[int]set{}
 		add := func(rule int, kind string) {
@@ -28,13 +28,13 @@ func (r *report) toldByTables() toldRules {
 				add(finding.Rules[0], oddHits)
 			}
 		}
-		told[table.Table] = rules
+		reported[table.Table] = rules
 	}
-	return told
+	return reported
 }
 
-// has tells whether the findings of a table tell what a warning would.
-func (t toldRules) has(it oddity) bool {
+// has reports whether table findings repeat a warning.
+func (t reportedRules) has(it oddity) bool {
 	pointer := it.place.Pointer()
 	before, _, ok := strings.Cut(pointer, "/rules/")
 	if !ok || len(t) == 0 {
@@ -51,9 +51,9 @@ func (t toldRules) has(it oddity) bool {
 
 const oddDefault = "unused default"
 
-// unusedDefaults warns of the defaults of tables of which some rule hits in each case.
+// unusedDefaults warns of defaults in tables where some rule always hits.
 func (r *report) unusedDefaults() {
-	told := 0
+	reported := 0
 	for _, facts := range r.facts.tables {
 		place := placeOf(facts.Table)
 		table := r.file.table(place)
@@ -64,11 +64,11 @@ func (r *report) unusedDefaults() {
 			if output.Default == nil {
 				continue
 			}
-			if told++; told <= mostPlaces {
+			if reported++; reported <= mostPlaces {
 				place := place.with(key("outputs"), index(at), key("default"))
 				r.warning(oddDefault, place, r.file.position(place), "some rule hits in each case, so the default is never taken")
 			}
 		}
 	}
-	r.moreWarnings(oddDefault, told-mostPlaces)
+	r.moreWarnings(oddDefault, reported-mostPlaces)
 }

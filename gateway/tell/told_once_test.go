@@ -5,15 +5,15 @@ import (
 	"testing"
 )
 
-// twoRules is a model of one table, whose rules have these tests.
+// twoRules returns a model with one table, whose rules have these tests.
 func twoRules(hit, first, second, fallback string) string {
 	return `{"inputs":["a"],"decisions":[{"name":"d","needs":["a"],"expr":{"table":{"hit":"` + hit + `","inputs":["a"],"outputs":[{"name":"x"` + fallback + `}],` +
 		`"rules":[{"when":["` + first + `"],"then":["1"]},{"when":["` + second + `"],"then":["2"]}]}}}],` +
 		`"services":[{"name":"s","outputs":["d"],"encapsulated":[],"inputDecisions":[],"inputData":["a"]}]}`
 }
 
-// TestToldOnce leaves out warnings that the findings of the tables tell, and warns of defaults that are never taken.
-func TestToldOnce(t *testing.T) {
+// TestReportedOnce leaves out warnings that table findings repeat, and warns of defaults that are never taken.
+func TestReportedOnce(t *testing.T) {
 	const table = `{"table":"/decisions/0/expr/table","complete":`
 	for name, row := range map[string]struct {
 		model, facts string
@@ -31,12 +31,12 @@ func TestToldOnce(t *testing.T) {
 		"a default":               {twoRules("C", "-", "5", `,"default":"0"`), table + `true}`, []string{`output 1 "x", default: some rule hits in each case`}},
 		"a default that is taken": {twoRules("C", "4", "5", `,"default":"0"`), table + `false}`, nil},
 	} {
-		told, err := Told(CheckOptions{Tables: true}, []byte(row.model), []byte(`{"lawful":true}`+"\n"+row.facts+"\n"))
+		reported, err := Told(CheckOptions{Tables: true}, []byte(row.model), []byte(`{"lawful":true}`+"\n"+row.facts+"\n"))
 		if err != nil {
 			t.Errorf("%s: %v", name, err)
 		}
 		var warnings []string
-		for _, line := range strings.Split(string(told), "\n") {
+		for _, line := range strings.Split(string(reported), "\n") {
 			if strings.HasPrefix(line, "warning: ") {
 				warnings = append(warnings, line)
 			}

@@ -2,7 +2,7 @@ package tell
 
 import "fmt"
 
-// notDecided tells why an answer about a table is not known.
+// notDecided reports why an answer about a table is not known.
 func (t *tableReport) notDecided() {
 	why := t.facts.Undecided
 	if len(why.Outputs) == 2 {
@@ -23,7 +23,7 @@ func (t *tableReport) notDecided() {
 	}
 }
 
-// oneOrMore is a verb after one rule or after several.
+// oneOrMore returns a verb for one rule or for several.
 func oneOrMore(rules []int, one, more string) string {
 	if len(rules) == 1 {
 		return one

@@ -6,14 +6,14 @@ import (
 	"gateway/lines"
 )
 
-// warnings tells what is odd in a lawful model: keys that come twice, texts with letters that are not seen, and then the rest.
+// warnings reports oddities in a valid model: repeated keys, texts with hidden letters, and then the rest.
 func (r *report) warnings() {
 	r.repeatedKeys()
 	r.hiddenLetters()
 	found, counts := oddities(r.file.model)
-	told := r.toldByTables()
+	reported := r.reportedByTables()
 	for _, it := range found {
-		if told.has(it) {
+		if reported.has(it) {
 			continue
 		}
 		r.warning(it.kind, it.place, r.file.position(it.place), it.said)
@@ -26,9 +26,9 @@ func (r *report) warnings() {
 
 func (r *report) warning(kind string, place Place, spot Spot, said string) {
 	words := r.file.words(place)
-	r.noticeAt(kindName(ofWarning, kind), Warning, spot, place.Pointer(), behindColon(words, said))
+	r.noticeAt(kindName(ofWarning, kind), Warning, spot, place.Pointer(), afterColon(words, said))
 	r.put(func() string {
-		return fmt.Sprintf("warning: %s%s\n", r.file.spotWords(spot), behindColon(words, said))
+		return fmt.Sprintf("warning: %s%s\n", r.file.spotWords(spot), afterColon(words, said))
 	}, func() string {
 		return object(nil).text("warning", kind).text("pointer", place.Pointer()).text("place", words).text("said", said).
 			position(spot).line()
@@ -46,15 +46,14 @@ func (r *report) moreWarnings(kind string, more int) {
 
 const repeatedKey = "repeated key"
 
-// A repeat is a key that comes more than once in an object: the place of the object, and the key where it comes for the second
-// time.
+// A repeat is the place of an object, and a key where it comes for the second time.
 type repeat struct {
 	place  Place
 	key    string
 	second lines.Node
 }
 
-// repeatedKeys tells the keys that come more than once in an object of the model, and whether the model's own does.
+// repeatedKeys reports the keys that an object of the model repeats, the model itself included.
 func (r *report) repeatedKeys() {
 	if second, ok := r.file.doc.Second(r.file.doc.Whole, "model"); ok {
 		r.repeated(repeat{key: "model", second: second})
@@ -71,7 +70,7 @@ func (r *report) repeated(it repeat) {
 	r.warning(repeatedKey, it.place, r.file.spot(it.second), "the key "+it.key+" stands more than once, and the last one counts")
 }
 
-// A repeats is a search for keys that come more than once.
+// A repeats searches for repeated keys.
 type repeats struct {
 	doc   *lines.Document
 	place Place
@@ -79,7 +78,7 @@ type repeats struct {
 	count int
 }
 
-// look looks at a value: first at its own keys, and then at its parts, of members with one key at the last alone.
+// look looks at a value: first its keys, then its parts. Of members with one key only the last counts.
 func (s *repeats) look(part lines.Node) {
 	switch s.doc.Kind(part) {
 	case '[':

@@ -10,8 +10,8 @@ import (
 	"gateway/lines"
 )
 
-// IsCounted says whether something in values of this type is counted: the engine has numbers as whole numbers of a unit, and so
-// dates and durations.
+// IsCounted reports whether values of this type have something counted: numbers, dates or durations that the engine has as
+// whole numbers of a unit.
 func (t *Type) IsCounted() bool {
 	if t == nil {
 		return false
@@ -27,7 +27,7 @@ func (t *Type) IsCounted() bool {
 	return false
 }
 
-// Object is the type of an object whose members have these types.
+// Object returns the type of an object whose members have these types.
 func Object(members map[string]*Type) *Type {
 	it := &Type{properties: members}
 	names := make(map[string]any, len(members))
@@ -38,7 +38,7 @@ func Object(members map[string]*Type) *Type {
 	return it
 }
 
-// countedBy reads multipleOf and per: the power of ten, and how many parts a quotient has.
+// countedBy reads multipleOf and per: the power of ten, and a quotient's parts.
 func (t *Type) countedBy(it *form) error {
 	if text := it.MultipleOf.String(); text != "" {
 		digits, exponent, fine := decimal.Parse(text)
@@ -69,7 +69,8 @@ func (t *Type) countedBy(it *form) error {
 	return nil
 }
 
-// Units is a value of this type as the engine has it, or says why there is none. Numbers are json.Number; 1e2 and 1.0 are taken.
+// Units returns a value of this type as the engine has it, or says why there is none. Numbers are json.Number; 1e2 and 1.0 are
+// accepted.
 func (t *Type) Units(value any) (any, *lines.ValueFault) {
 	value = plain(value)
 	if fault := t.Check(value); fault != nil {
@@ -78,10 +79,10 @@ func (t *Type) Units(value any) (any, *lines.ValueFault) {
 	return t.units(value, "")
 }
 
-// Counted is the same of a value that may be of another type: its numbers are counted as those of this one.
+// Counted is Units for a value that may have another type: its numbers are counted as this type's.
 func (t *Type) Counted(value any) (any, *lines.ValueFault) { return t.units(plain(value), "") }
 
-// plain writes numbers in their shortest form, without exponents that are not far out.
+// plain writes numbers in their shortest form, without small exponents.
 func plain(value any) any {
 	switch value := value.(type) {
 	case json.Number:
@@ -98,7 +99,7 @@ func plain(value any) any {
 	return value
 }
 
-// mostDigits is how many digits a number is written with; one with more stays as it is, and is past each range.
+// mostDigits limits a number's digits; one with more stays as it is, and is out of every range.
 const mostDigits = 100
 
 func plainNumber(text string) string {
@@ -147,7 +148,7 @@ func (t *Type) units(value any, pointer string) (any, *lines.ValueFault) {
 	return value, nil
 }
 
-// number is a number in the unit of the type.
+// number returns a number in the type's unit.
 func (t *Type) number(text, pointer string) (string, *lines.ValueFault) {
 	units, err := t.unit.Units(text)
 	switch {
@@ -166,7 +167,7 @@ func (t *Type) number(text, pointer string) (string, *lines.ValueFault) {
 		lines.Brief([]byte(text), 40), t.unit.Text(fmt.Sprint(int64(lines.MaxNumber))))}
 }
 
-// Decimals is a value of the engine as one of this type: with decimals, dates and durations.
+// Decimals returns a value of the engine as one of this type: with decimals, dates and durations.
 func (t *Type) Decimals(value any) any {
 	switch value := value.(type) {
 	case json.Number:
@@ -186,16 +187,16 @@ func (t *Type) Decimals(value any) any {
 	return value
 }
 
-// IsMoment says whether values of this type are dates or durations.
+// IsMoment reports whether values of this type are dates or durations.
 func (t *Type) IsMoment() bool { return t != nil && t.moment != nil }
 
-// Property is the type of what stands under a key.
+// Property returns the type of the value under a key.
 func (t *Type) Property(key string) *Type { return t.property(key) }
 
-// Item is the type of the items of a list.
+// Item returns the type of a list's items.
 func (t *Type) Item() *Type { return t.itemType() }
 
-// itemType is the type of the items of a list; of a value of which the type says no more, it is the type itself.
+// itemType returns the type of a list's items; the type itself if it says no more.
 func (t *Type) itemType() *Type {
 	switch {
 	case t.items != nil:
@@ -206,7 +207,7 @@ func (t *Type) itemType() *Type {
 	return t.inner()
 }
 
-// property is the type of what stands under a key.
+// property returns the type of the value under a key.
 func (t *Type) property(key string) *Type {
 	if part := t.properties[key]; part != nil {
 		return part
@@ -217,7 +218,7 @@ func (t *Type) property(key string) *Type {
 	return t.inner()
 }
 
-// inner is the type of parts of which nothing is said: their numbers have the type's own unit.
+// inner returns the type of unspecified parts: their numbers have the type's unit.
 func (t *Type) inner() *Type {
 	if t.unit.IsWhole() {
 		return Any

@@ -6,20 +6,20 @@ import (
 	"gateway/lines"
 )
 
-// Keys say how keys of a type's objects are written otherwise. Nil Keys change nothing.
+// Keys rename keys of a type's objects. Nil Keys change nothing.
 type Keys struct {
 	keys  map[string]key
 	items *Keys
 }
 
-// A key is what a key becomes, and how those within its value do.
+// A key is a key's new name, and the keys within its value.
 type key struct {
 	to     string
 	within *Keys
 }
 
-// ToWords make the model's words of the names of a file. A key may be written either way; where the name of one is the word of
-// another, it is the name.
+// ToWords turn a file's names into the model's words. A key may be written either way; if one's name is another's word, it is
+// the name.
 func ToWords(t *Type, names map[string]string) *Keys {
 	return newKeys(t, func(of *Keys, word string, within *Keys) {
 		if _, isName := of.keys[word]; !isName {
@@ -31,7 +31,7 @@ func ToWords(t *Type, names map[string]string) *Keys {
 	})
 }
 
-// ToNames make the names of a file of the model's words.
+// ToNames turn the model's words into the file's names.
 func ToNames(t *Type, names map[string]string) *Keys {
 	return newKeys(t, func(of *Keys, word string, within *Keys) {
 		to := word
@@ -42,7 +42,7 @@ func ToNames(t *Type, names map[string]string) *Keys {
 	})
 }
 
-// newKeys has add give keys to each property. It is nil where nothing changes.
+// newKeys lets add give keys to each property. It returns nil if nothing changes.
 func newKeys(t *Type, add func(of *Keys, word string, within *Keys)) *Keys {
 	if t == nil {
 		return nil
@@ -61,10 +61,10 @@ func newKeys(t *Type, add func(of *Keys, word string, within *Keys)) *Keys {
 	return made
 }
 
-// Unique is a value with its keys written otherwise, or says which key of an object is written in two ways.
+// Unique returns a value with renamed keys, or says which key of an object is written in two ways.
 func (k *Keys) Unique(value any) (any, *lines.ValueFault) { return k.write(value, "", true) }
 
-// Write is a value with its keys written otherwise. A key stays as it is where the object has the other one too.
+// Write returns a value with renamed keys. A key is kept if the object has the new one too.
 func (k *Keys) Write(value any) any {
 	written, _ := k.write(value, "", false)
 	return written
@@ -86,7 +86,7 @@ func (k *Keys) write(value any, pointer string, unique bool) (any, *lines.ValueF
 	return value, nil
 }
 
-// writeItems does so of a list. One item in place of a list, and a list in place of one item, are read as if they were it.
+// writeItems does so for a list. One item in place of a list, and a list in place of one item, are treated alike.
 func (k *Keys) writeItems(list []any, pointer string, unique bool) (any, *lines.ValueFault) {
 	of := k.items
 	if of == nil {
@@ -126,7 +126,7 @@ func (k *Keys) writeMembers(object map[string]any, pointer string, unique bool) 
 	return made, nil
 }
 
-// Widened is a type that names these members too, where it doesn't say what they are. Of a list they are those of its items.
+// Widened returns a type that has these members too, if it doesn't say what they are. For a list they are those of its items.
 func (t *Type) Widened(members map[string]*Type) *Type {
 	if len(members) == 0 {
 		return t

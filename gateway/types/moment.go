@@ -11,17 +11,17 @@ import (
 	"gateway/lines"
 )
 
-// A moment is how dates, times or durations are read and written, which the engine has as whole numbers. Those with an offset are
-// never results; explanations have dates and times of them in UTC.
+// A moment reads and writes dates, times or durations, which the engine has as whole numbers. Those with an offset are never
+// results; explanations have their dates and times in UTC.
 type moment struct {
 	name string
-	// at is what a clock fills an input of the type with; nil where none does.
+	// at is what a clock fills an input of the type with, or nil.
 	at    func(now time.Time, zone *time.Location) int64
 	read  func(text string) (int64, error)
 	write func(number int64) string
 }
 
-// momentOf is how a form's format is read; nil of others.
+// momentOf returns the moment of a form's format, or nil.
 func momentOf(it *form) *moment {
 	tick := calendar.Tick{Decimals: it.Decimals}
 	switch {
@@ -46,7 +46,7 @@ func momentOf(it *form) *moment {
 	return nil
 }
 
-// instantText writes dates and times that have lost their offsets in UTC; explanations have such.
+// instantText writes dates and times that have lost their offsets in UTC, for explanations.
 func instantText(tick calendar.Tick) func(number int64) string {
 	return func(number int64) string {
 		if text := tick.DateTimeText(number); text != "" {
@@ -56,7 +56,7 @@ func instantText(tick calendar.Tick) func(number int64) string {
 	}
 }
 
-// checkText holds a text to the format of the type.
+// checkText checks a text against the type's format.
 func (t *Type) checkText(text, pointer string) *lines.ValueFault {
 	number, fault := t.moment.units(text, pointer)
 	if fault != nil || t.moment == nil {
@@ -66,7 +66,7 @@ func (t *Type) checkText(text, pointer string) *lines.ValueFault {
 	return t.checkEnds(at, is, shown(text), pointer)
 }
 
-// boundMoment is bound of a date or a duration.
+// boundMoment is bound for a date or duration.
 func (t *Type) boundMoment(limit string, below, open bool) {
 	if limit == "" || t.moment == nil {
 		return
@@ -76,7 +76,7 @@ func (t *Type) boundMoment(limit string, below, open bool) {
 	}
 }
 
-// plain is a text in the one form that its moment has: P12M is P1Y.
+// plain returns a text in its moment's canonical form: P12M becomes P1Y.
 func (m *moment) plain(value any) any {
 	text, is := value.(string)
 	if m == nil || !is || m.write == nil {
@@ -88,7 +88,7 @@ func (m *moment) plain(value any) any {
 	return value
 }
 
-// units is a text as the engine has it. Of no moment it is the text.
+// units returns a text as the engine has it; without a moment, the text.
 func (m *moment) units(text, pointer string) (any, *lines.ValueFault) {
 	if m == nil {
 		return text, nil
@@ -111,17 +111,17 @@ func (t *Type) filledBy(zone string) (err error) {
 	return nil
 }
 
-// HasClock says whether an input of this type is filled from a clock.
+// HasClock reports whether a clock fills inputs of this type.
 func (t *Type) HasClock() bool {
 	return t != nil && t.clock != nil && t.moment != nil && t.moment.at != nil
 }
 
-// At is what a clock fills an input with, as the engine has it.
+// At returns what a clock fills an input with, as the engine has it.
 func (t *Type) At(now time.Time) json.Number {
 	return json.Number(strconv.FormatInt(t.moment.at(now, t.clock), 10))
 }
 
-// shown is a number of the engine as a text; what is past the years stays as it is.
+// shown returns a number of the engine as a text; one beyond the years stays as it is.
 func (m *moment) shown(number json.Number) any {
 	value, err := strconv.ParseInt(number.String(), 10, 64)
 	if err != nil || m.write == nil {

@@ -6,7 +6,7 @@ import (
 	"time"
 )
 
-// TestMoments has texts of dates, times and durations with the numbers of the engine, and back.
+// TestMoments has texts of dates, times and durations with the engine's numbers, and back.
 func TestMoments(t *testing.T) {
 	for _, c := range []struct{ schema, text, number, back string }{
 		{`{"type":["string","null"],"format":"date"}`, "2026-11-29", "739949", "2026-11-29"},

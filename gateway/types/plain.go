@@ -7,17 +7,17 @@ import (
 	"gateway/lines"
 )
 
-// HoldsPlain says whether a value is of this type, as far as that is seen without reading its text into a tree: where it is
-// not seen, Check says more. The text is a lawful JSON value with no blanks around it.
+// HoldsPlain reports whether a value visibly has this type, without reading its text into a tree. If not, Check decides. The
+// text is valid JSON without blanks around it.
 func (t *Type) HoldsPlain(text []byte) bool {
 	r := reader{text: text}
 	return t.holds(&r) && r.at == len(text)
 }
 
-// Any is the type of what has none.
+// Any is the type of untyped values.
 var Any = &Type{}
 
-// or is the type itself, or Any where there is none.
+// or returns the type itself, or Any for nil.
 func (t *Type) or() *Type {
 	if t == nil {
 		return Any
@@ -25,7 +25,7 @@ func (t *Type) or() *Type {
 	return t
 }
 
-// holds goes over a value, and says whether it is seen to be of this type.
+// holds reads a value, and reports whether it visibly has this type.
 func (t *Type) holds(r *reader) bool {
 	switch r.peek() {
 	case '{':
@@ -48,7 +48,7 @@ func (t *Type) holds(r *reader) bool {
 	return (t.takes("integer") || t.takes("number")) && t.holdsNumber(text)
 }
 
-// holdsMember goes over a member of an object. One whose key comes again is held to the type, too.
+// holdsMember reads an object's member. Each member of a repeated key must have the type.
 func (t *Type) holdsMember(r *reader) bool {
 	key := r.scalar()
 	if len(key) < 2 {
@@ -69,7 +69,7 @@ func (t *Type) takes(kind string) bool {
 	return len(t.kinds) == 0
 }
 
-// isListedText says whether a value stands among the allowed ones just as it is written.
+// isListedText reports whether a value is among the allowed ones as written.
 func (t *Type) isListedText(text []byte) bool {
 	for _, listed := range t.listed {
 		if string(text) == listed {
@@ -79,10 +79,10 @@ func (t *Type) isListedText(text []byte) bool {
 	return len(t.enum) == 0
 }
 
-// mostCharacters is how many a whole number has at most that is surely in range.
+// mostCharacters is the length up to which a whole number is surely in range.
 const mostCharacters = 18
 
-// holdsNumber says whether a number is a short whole one within the bounds.
+// holdsNumber reports whether a number is short, whole and within the bounds.
 func (t *Type) holdsNumber(text []byte) bool {
 	digits := bytes.TrimPrefix(text, []byte("-"))
 	isNegative := len(digits) < len(text)
@@ -102,8 +102,8 @@ func (t *Type) holdsNumber(text []byte) bool {
 	return t.bounds(number)
 }
 
-// PlainUnits is a number as the engine has it, as far as that is seen without reading its text into a tree: where it is not seen, Units
-// says more. The text is a lawful JSON value with no blanks around it.
+// PlainUnits returns a number as the engine has it, if that is visible without reading its text into a tree. If not, Units
+// decides. The text is valid JSON without blanks around it.
 func (t *Type) PlainUnits(text []byte) (units []byte, isSeen bool) {
 	if t.moment != nil || len(t.enum) > 0 || t.unit.Per > 1 || !t.takes("number") || len(text) > mostCharacters {
 		return nil, false
@@ -126,7 +126,7 @@ func (t *Type) PlainUnits(text []byte) (units []byte, isSeen bool) {
 // mostPlain is a number that stays in range times ten.
 const mostPlain = lines.MaxNumber / 10
 
-// plainDecimal is the whole number that the digits of a short number make, and how many of them stand behind its point.
+// plainDecimal returns the digits of a short number as a whole number, and how many follow its point.
 func plainDecimal(text []byte) (number int64, decimals int, fine bool) {
 	digits := bytes.TrimPrefix(text, []byte("-"))
 	if point := bytes.IndexByte(digits, '.'); point >= 0 {
@@ -146,7 +146,7 @@ func plainDecimal(text []byte) (number int64, decimals int, fine bool) {
 	return number, decimals, len(digits) > 0
 }
 
-// bounds says whether a number in the type's unit is within the bounds, where these are whole in it.
+// bounds reports whether a number in the type's unit is within the bounds, if these are whole in it.
 func (t *Type) bounds(number int64) bool {
 	for _, end := range t.ends {
 		if !end.isWhole || end.open && number == end.whole || end.below && number < end.whole || !end.below && number > end.whole {
@@ -156,7 +156,7 @@ func (t *Type) bounds(number int64) bool {
 	return true
 }
 
-// A reader goes over a lawful JSON text.
+// A reader reads a valid JSON text.
 type reader struct {
 	text []byte
 	at   int
@@ -175,7 +175,7 @@ func (r *reader) blanks() {
 	}
 }
 
-// parts goes over the parts of a list or an object, each by part, which says whether to go on.
+// parts reads the parts of a list or object, each with part, which reports whether to continue.
 func (r *reader) parts(end byte, part func() bool) bool {
 	r.at++
 	r.blanks()
@@ -195,7 +195,7 @@ func (r *reader) parts(end byte, part func() bool) bool {
 	return false
 }
 
-// scalar goes over a text, a number, or true, false or null, and gives it as it is written; nothing where it has an escape.
+// scalar reads a string, a number, true, false or null, and returns it as written; nothing if it has an escape.
 func (r *reader) scalar() []byte {
 	start := r.at
 	if r.peek() == '"' {
@@ -213,7 +213,7 @@ func (r *reader) scalar() []byte {
 	return r.text[start:r.at]
 }
 
-// isOfWord says whether a byte may stand in a number, or in true, false or null.
+// isOfWord reports whether a byte may be in a number, true, false or null.
 func isOfWord(c byte) bool {
 	return c >= '0' && c <= '9' || c|0x20 >= 'a' && c|0x20 <= 'z' || c == '-' || c == '+' || c == '.'
 }

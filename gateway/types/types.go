@@ -1,10 +1,10 @@
-// Package types holds values to the JSON Schemas that desk import writes of the types of DMN files: the keywords type, enum,
-// minimum, maximum, exclusiveMinimum, exclusiveMaximum, multipleOf, format, items and properties; per and unit; and of dates and
-// durations formatMinimum and its kin. Other keywords say nothing.
+// Package types checks values against the JSON Schemas that desk import writes for types of DMN files. The keywords are type,
+// enum, minimum, maximum, exclusiveMinimum, exclusiveMaximum, multipleOf, format, items and properties; per and unit; and for
+// dates and durations formatMinimum and its kin. Other keywords have no effect.
 //
-// The engine counts in whole numbers. Of a type with multipleOf 0.01 they are hundredths; of one with per 1200 they are 1200ths:
-// quotients, whose decimals need not end. Of a text with format date they are days; of one with format time or date-time, which has
-// an offset where offset is true, seconds; and of one with format duration its unit, second or month. Seconds may have decimals.
+// The engine counts in whole numbers. With multipleOf 0.01 they are hundredths; with per 1200 they are 1200ths: quotients,
+// whose decimals need not end. With format date they are days; with format time or date-time, which has an offset if offset is
+// true, seconds; and with format duration the unit, second or month. Seconds may have decimals.
 package types
 
 import (
@@ -19,36 +19,36 @@ import (
 	"gateway/lines"
 )
 
-// A Type is a schema that was read.
+// A Type is a parsed schema.
 type Type struct {
 	kinds []string
 	enum  []any
-	// listed has the texts of enum.
+	// listed has the values of enum as texts.
 	listed     []string
 	ends       []bound
 	items      *Type
 	properties map[string]*Type
-	// order has the names of the properties in the order of their bytes.
+	// order has the property names, sorted by bytes.
 	order []string
-	// moment is how texts of dates and durations are read; nil of other types.
+	// moment reads dates and durations; nil for other types.
 	moment *moment
-	// clock is the zone of the clock that fills an input of the type; nil of others.
+	// clock is the zone of the clock that fills an input of the type, or nil.
 	clock *time.Location
-	// unit is what whole numbers of the engine count: of a type without kinds, in all its parts.
+	// unit is what the engine's whole numbers count: for a type without kinds, in all its parts.
 	unit decimal.Unit
 }
 
-// A bound is one end of a range of numbers.
+// A bound is one end of a number range.
 type bound struct {
 	at          *big.Rat
 	text        string
 	below, open bool
-	// whole is the end in the type's unit where isWhole says so.
+	// whole is the end in the type's unit, if isWhole.
 	whole   int64
 	isWhole bool
 }
 
-// A form is a schema as it is written.
+// A form is a schema as written.
 type form struct {
 	Type             any             `json:"type"`
 	Enum             []any           `json:"enum"`
@@ -140,7 +140,7 @@ func (t *Type) parts(it *form) (err error) {
 	return nil
 }
 
-// Check says why a value is not of this type, or gives nil. Numbers are json.Number.
+// Check says why a value doesn't have this type, or returns nil. Numbers are json.Number.
 func (t *Type) Check(value any) *lines.ValueFault {
 	return t.check(value, "")
 }
@@ -172,7 +172,7 @@ func (t *Type) checkNumber(value json.Number, pointer string) *lines.ValueFault 
 	return t.checkEnds(at, is, value.String(), pointer)
 }
 
-// checkEnds holds a number, which is shown as text, to the bounds.
+// checkEnds checks a number, shown as text, against the bounds.
 func (t *Type) checkEnds(at *big.Rat, is bool, text, pointer string) *lines.ValueFault {
 	for _, end := range t.ends {
 		if is && end.holds(at) {
@@ -206,7 +206,7 @@ func (t *Type) checkItems(value []any, pointer string) *lines.ValueFault {
 	return nil
 }
 
-// checkProperties holds those properties to their types that the value has. One that is missing is null, as everywhere.
+// checkProperties checks the properties that the value has. A missing one is null, as everywhere.
 func (t *Type) checkProperties(value map[string]any, pointer string) *lines.ValueFault {
 	for _, name := range t.order {
 		part, is := value[name]
@@ -248,7 +248,7 @@ func kindOf(value any) string {
 	return "object"
 }
 
-// TakesNull says whether null is a value of this type.
+// TakesNull reports whether null has this type.
 func (t *Type) TakesNull() bool { return t.takes("null") && t.isListedText([]byte("null")) }
 
 func (t *Type) isListed(value any) bool {

@@ -55,12 +55,12 @@ func TestCheck(t *testing.T) {
 	}
 }
 
-// pick gives one of several texts.
+// pick returns one of several texts.
 func pick(random *rand.Rand, texts ...string) string {
 	return texts[random.Intn(len(texts))]
 }
 
-// someType is a schema, and someValue a value, each of parts that go together here and there.
+// someType returns a schema, and someValue a value; their parts sometimes match.
 func someType(random *rand.Rand, depth int) string {
 	keys := []string{`"type":` + pick(random, `"integer"`, `"number"`, `"string"`, `["boolean","null"]`, `["object","null"]`, `"array"`)}
 	if random.Intn(3) == 0 {
@@ -89,7 +89,7 @@ func someValue(random *rand.Rand, depth int) string {
 	return `{"a":` + someValue(random, depth-1) + pick(random, `}`, ` , "b" : 1}`, `,"a":`+someValue(random, depth-1)+`}`, `,"c":[[],{}]}`)
 }
 
-// What is seen of a text to be of a type is of it.
+// What visibly has a type has it.
 func TestHoldsPlain(t *testing.T) {
 	random, seen := rand.New(rand.NewSource(61)), 0
 	for n := 0; n < 5_000; n++ {
@@ -115,7 +115,7 @@ func TestHoldsPlain(t *testing.T) {
 	}
 }
 
-// TestPlainUnits holds what is seen of a number's text against what is read of it.
+// TestPlainUnits compares what is visible in a number's text with what reading it gives.
 func TestPlainUnits(t *testing.T) {
 	random, seen := rand.New(rand.NewSource(3)), 0
 	for i := 0; i < 20_000; i++ {

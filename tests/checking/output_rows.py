@@ -29,7 +29,7 @@ JSON_SUMMARY = r"""{"lawful":true,"inputs":["age","score"],"decisions":[{"name":
 GIVES = """lawful
 inputs: age, score
 decisions:
-  risk: text or null (table)
+  risk: "HIGH" or null (table)
   limit: 0 to 1000 (expression)
 services:
   limit_of(age, score): 0 to 1000
@@ -38,7 +38,7 @@ services:
 GIVES_ANY = """lawful
 inputs: age, score
 decisions:
-  risk: text or null (table)
+  risk: "HIGH" or null (table)
   limit: any value (expression)
 services:
   limit_of(age, score): any value

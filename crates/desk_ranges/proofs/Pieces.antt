@@ -9,7 +9,7 @@ use Rattle.desk_lines.specs.Lines.{ended}
 use Rattle.dmn_form.specs.Model.{Name}
 use Rattle.dmn_ranges.specs.declared.interval.Interval.{Interval}
 use Rattle.dmn_ranges.specs.declared.outcomes.Outcomes.{Outcomes}
-use Rattle.desk_ranges.specs.Lines.{interval_told, outcomes_told, service_line, decision_line, kinds_text, more_services, parts_text, head_text}
+use Rattle.desk_ranges.specs.Lines.{interval_told, texts_told, outcomes_told, service_line, decision_line, kinds_text, more_services, parts_text, head_text}
 
 -- a piece goes onto a text that is known
 pub onto : {x y z : List ℕ} (b : List ℕ) → x ≡ y ++ b → y ≡ z → x ≡ z ++ b
@@ -41,7 +41,7 @@ pub outcomes_pieces : (t : List ℕ) (o : Outcomes)
 outcomes_pieces t o =
     append_assoc (((t ++ kinds_text o.range) ++ parts_text o.range) ++ codes ",\"limit\":") (compact_text (boolean o.limit)) (125 ∷ [])
     ∙ outcomes_shape t (compact_text (boolean o.range.nulls)) (compact_text (boolean o.range.trues)) (compact_text (boolean o.range.falses)) (compact_text (interval_told o.range.numbers))
-    (compact_text (boolean o.range.texts)) (compact_text (boolean o.range.lists)) (compact_text (boolean o.range.contexts)) (compact_text (boolean o.limit))
+    (compact_text (texts_told o.range.texts)) (compact_text (boolean o.range.lists)) (compact_text (boolean o.range.contexts)) (compact_text (boolean o.limit))
 
 service_shape : (t s g : List ℕ) → ((((t ++ codes "{\"service\":") ++ s) ++ codes ",\"gives\":") ++ g) ++ codes "}\n" ≡ t ++ ((123 ∷ (quoted (codes "service") ++ 58 ∷ (s ++ 44 ∷ (quoted (codes "gives") ++ 58 ∷ (g ++ 125 ∷ []))))) ++ 10 ∷ [])
 unfolding escape_byte

@@ -1,13 +1,13 @@
 //! What can be given, as lines of JSON.
-ghost use Rattle.std.specs.Prelude.{◌≡◌, ◌++◌, OnOk};
-ghost use Rattle.std.specs.List.{flat_map};
-ghost use Rattle.serde_json.specs.Data.{boolean, number};
+ghost use Rattle.std.specs.Prelude.{◌≡◌, ◌++◌, IfOk, OnOk, Some, is_some, option_map};
+ghost use Rattle.std.specs.List.{flat_map, list_all, list_any};
+ghost use Rattle.serde_json.specs.Data.{Items, array, boolean, number};
 ghost use Rattle.serde_json.specs.Find.{of_integer};
-ghost use Rattle.serde_json.specs.Written.{compact_text};
+ghost use Rattle.serde_json.specs.Written.{comma_if, compact_text, items_text};
 ghost use Rattle.desk_lines.specs.Lines.{ended};
-ghost use Rattle.desk_ranges.specs.Lines.{decision_line, head_text, interval_told, kinds_text, more_services, outcomes_told, parts_text, service_line};
+ghost use Rattle.desk_ranges.specs.Lines.{decision_line, few_told, head_text, interval_told, is_text as is_text_of, item_if, kinds_text, more_services, outcomes_told, parts_text, service_line, text_in as text_in_of, texts_told, word_items};
 
-use dmn_ranges::{Interval, Outcomes, Range};
+use dmn_ranges::{Interval, Outcomes, Range, Texts, Word};
 use json_writer::{add_number, add_quoted};
 use std::alloc::{AllocError, Global};
 
@@ -57,14 +57,117 @@ fn add_kinds(range: Range, text: &mut Vec<u8>) -> Result<(), AllocError>
     Ok(())
 }
 
-/// Adds which numbers, and whether texts, lists and contexts can be given.
-fn add_parts(range: Range, text: &mut Vec<u8>) -> Result<(), AllocError>
+/// The text of a word, as each word of a text has one.
+fn text_of_word(word: &Word) -> Option<&str>
+    ensures { option_map (λ s. s.now) result ≡ text_in_of (Some word.now) }
+{
+    let text = word.as_str()?;
+    // They are UTF-8.
+    let _bytes = text.as_bytes();
+    Some(text)
+}
+
+/// The text of a word, if it is there.
+fn text_in(word: &Option<Word>) -> Option<&str>
+    ensures { option_map (λ s. s.now) result ≡ text_in_of word.now }
+{
+    match word {
+        Some(word) => text_of_word(word),
+        None => None,
+    }
+}
+
+/// Whether a word is a text, if it is there.
+fn is_text(word: &Option<Word>) -> bool
+    ensures { result ≡ is_text_of word.now }
+{
+    word.is_none() || text_in(word).is_some()
+}
+
+fn are_texts(words: &[Option<Word>]) -> bool
+    ensures { result ≡ list_all is_text_of words.now }
+{
+    words.iter().all(|word| is_text(word))
+}
+
+fn has_word(words: &[Option<Word>]) -> bool
+    ensures { result ≡ list_any is_some words.now }
+{
+    words.iter().any(|word| word.is_some())
+}
+
+/// Adds a comma, where something stands before.
+fn add_comma(later: bool, text: &mut Vec<u8>) -> Result<(), AllocError>
+    ensures { OnOk result (text.new.items ≡ text.old.items ++ comma_if later) }
+{
+    if later {
+        text.extend_from_slice(b",")
+    } else {
+        text.extend_from_slice(b"")
+    }
+}
+
+/// Adds a word, if it is there, with a comma where something stands before. Tells whether something stands before what comes next.
+fn add_word(
+    alloc: Global,
+    later: bool,
+    word: &Option<Word>,
+    text: &mut Vec<u8>,
+) -> Result<bool, AllocError>
+    ensures { IfOk result (λ next. (rest : Items) → text.old.items ++ items_text later (item_if (text_in_of word.now) rest) ≡ text.new.items ++ items_text next rest) }
+{
+    let Some(word) = text_in(word) else {
+        return Ok(later);
+    };
+    add_comma(later, text)?;
+    add_quoted(alloc, word, text)?;
+    Ok(true)
+}
+
+/// Adds a list of words.
+fn add_words(alloc: Global, words: &[Option<Word>], text: &mut Vec<u8>) -> Result<(), AllocError>
+    ensures { OnOk result (text.new.items ≡ text.old.items ++ compact_text (array (word_items words.now))) }
+{
+    text.push(b'[')?;
+    let mut later = false;
+    for word in words {
+        later = add_word(alloc, later, word, text)?;
+    }
+    text.push(b']')?;
+    Ok(())
+}
+
+/// Adds a list of these words, or whether there is a text.
+fn add_few(alloc: Global, words: &[Option<Word>], text: &mut Vec<u8>) -> Result<(), AllocError>
+    ensures { OnOk result (text.new.items ≡ text.old.items ++ compact_text (few_told words.now)) }
+{
+    if !are_texts(words) {
+        return add_bool(true, text);
+    }
+    if !has_word(words) {
+        return add_bool(false, text);
+    }
+    add_words(alloc, words, text)
+}
+
+/// Adds which texts there are, where these are few, or whether there is one.
+fn add_texts(alloc: Global, texts: Texts, text: &mut Vec<u8>) -> Result<(), AllocError>
+    ensures { OnOk result (text.new.items ≡ text.old.items ++ compact_text (texts_told texts)) }
+{
+    match texts {
+        Texts::Any => add_bool(true, text),
+        Texts::Few(words) => add_few(alloc, &words, text),
+    }
+}
+
+/// Adds which numbers and texts, and whether lists and contexts can be given.
+fn add_parts(alloc: Global, range: Range, text: &mut Vec<u8>) -> Result<(), AllocError>
     ensures { OnOk result (text.new.items ≡ text.old.items ++ parts_text range) }
 {
     text.extend_from_slice(b",\"numbers\":")?;
     add_interval(range.numbers, text)?;
     text.extend_from_slice(b",\"texts\":")?;
-    add_bool(range.texts, text)?;
+    add_texts(alloc, range.texts, text)?;
     text.extend_from_slice(b",\"lists\":")?;
     add_bool(range.lists, text)?;
     text.extend_from_slice(b",\"contexts\":")?;
@@ -73,11 +176,11 @@ fn add_parts(range: Range, text: &mut Vec<u8>) -> Result<(), AllocError>
 }
 
 /// Adds what can be given.
-fn add_outcomes(outcomes: Outcomes, text: &mut Vec<u8>) -> Result<(), AllocError>
+fn add_outcomes(alloc: Global, outcomes: Outcomes, text: &mut Vec<u8>) -> Result<(), AllocError>
     ensures { OnOk result (text.new.items ≡ text.old.items ++ compact_text (outcomes_told outcomes)) }
 {
     add_kinds(outcomes.range, text)?;
-    add_parts(outcomes.range, text)?;
+    add_parts(alloc, outcomes.range, text)?;
     text.extend_from_slice(b",\"limit\":")?;
     add_bool(outcomes.limit, text)?;
     text.push(b'}')?;
@@ -96,7 +199,7 @@ pub(crate) fn add_result(
     text.extend_from_slice(b"{\"service\":")?;
     add_quoted(alloc, service, text)?;
     text.extend_from_slice(b",\"gives\":")?;
-    add_outcomes(outcomes, text)?;
+    add_outcomes(alloc, outcomes, text)?;
     text.extend_from_slice(b"}\n")?;
     Ok(())
 }
@@ -131,7 +234,7 @@ pub(crate) fn add_decision(
 {
     begin_decision(alloc, decision, service, text)?;
     text.extend_from_slice(b",\"gives\":")?;
-    add_outcomes(outcomes, text)?;
+    add_outcomes(alloc, outcomes, text)?;
     text.extend_from_slice(b"}\n")?;
     Ok(())
 }

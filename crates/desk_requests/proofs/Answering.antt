@@ -114,24 +114,6 @@ changed lanes register earlier reading n place now client m at is new h =
     ∙ set_one (client_after earlier) (client_after (reading ∷ earlier)) (names_with_lanes lanes (reading ∷ earlier)) place n (lanes-distinct lanes (reading ∷ earlier))
     (ap (λ ns. slice_get ns place) (sym m.names) ∙ at) h
 
--- ## Models
-
-pub load_ok : (old new : Register) (k : ℕ) (json : Data) (answer : Answer) → is_ok (read_model json) ≡ true → force_of new ≡ Some (compact_text json)
-    → new.clients ≡ old.clients → new.lanes ≡ old.lanes → answer_view answer ≡ Loaded k → Answers old k (Model json) answer new
-load_ok old new k json answer ok force clients same view = λ lanes earlier s num.
-    let l = loaded_model json (read_model json) (in_force earlier) (number_after earlier) ok in (
-      view ∙ ap Loaded num ∙ sym l.1,
-      record { count = same ∙ s.count; model = force ∙ sym l.0; clients = ap (λ ks. map client_view ks.items) clients ∙ s.clients },
-    )
-
-pub load_faulty : (old new : Register) (k : ℕ) (json : Data) (answer : Answer) (fault : ModelFault) → read_model json ≡ Err fault → new ≡ old
-    → answer_view answer ≡ Faulty k (fault_word fault) → Answers old k (Model json) answer new
-load_faulty old new k json answer fault bad same view = λ lanes earlier s num.
-    let l = faulty_model json (read_model json) (in_force earlier) (number_after earlier) fault bad in (
-      view ∙ ap (λ j. Faulty j (fault_word fault)) num ∙ sym l.1,
-      subst (λ r. StandsAfter lanes r (Says (Model json) ∷ earlier)) (sym same) (record { count = s.count; model = s.model ∙ sym l.0; clients = s.clients }),
-    )
-
 -- ## Requests
 
 -- what is due to a request, by the model in force, whether its name has a lane, and what its service makes of its inputs

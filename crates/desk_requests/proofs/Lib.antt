@@ -6,5 +6,7 @@ pub mod Readings
 pub mod Listening
 pub mod Booking
 pub mod Answering
+pub mod Settling
+pub mod Asking
 pub mod Taken
 pub mod Passing

@@ -77,3 +77,8 @@ pub map_kept : {A B : Type 0} (f : A → B) (xs : List A) (i : ℕ) (x : A) → 
 map_kept f [] i x is = refl
 map_kept f (z ∷ xs) zero x is = ap (λ y. f y ∷ map f xs) is
 map_kept f (z ∷ xs) (suc i) x is = ap (λ l. f z ∷ l) (map_kept f xs i x is)
+
+pub set_back : {X : Type 0} (xs : List X) (i : ℕ) (x : X) → slice_get xs i ≡ Some x → slice_set xs i x ≡ xs
+set_back [] i x at = refl
+set_back (z ∷ xs) zero x at = let is : z ≡ x = cc in ap (λ y. y ∷ xs) (sym is)
+set_back (z ∷ xs) (suc i) x at = ap (λ l. z ∷ l) (set_back xs i x at)

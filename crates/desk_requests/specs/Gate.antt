@@ -1,15 +1,21 @@
 -- What stands between the lines where each client has a lane.
-use Rattle.std.specs.Prelude.{◌≡◌, ℕ, ◌<◌, List, [], ◌∷◌, length, Option, Some, None}
+use Rattle.std.specs.Prelude.{◌≡◌, ◌||◌, ℕ, ◌<◌, List, [], ◌∷◌, length, Option, Some, None, bytes_eq}
 use Rattle.std.specs.Arc.{arc_value}
+use Rattle.std.specs.declared.alloc.Global.{Global}
+use Rattle.std.specs.declared.sync.Arc.{Arc}
 use Rattle.std.specs.BTreeSet.{contains_text}
 use Rattle.desk_wire.specs.Reading.{Reading}
+use Rattle.desk_wire.specs.ReportView.{report_view}
 use Rattle.desk_wire.specs.declared.heard.Heard.{Heard}
 use Rattle.desk_wire.specs.declared.heard.Heard.TheVariants as heard
 use Rattle.desk_wire.specs.declared.word.Word.TheVariants as word
 use Rattle.desk_requests.specs.Line.{Line, Reads}
-use Rattle.desk_requests.specs.Refused.{refused, refused_at}
+use Rattle.desk_requests.specs.Refused.{refused, refused_at, refused_by}
 use Rattle.desk_requests.specs.Services.{KnowsServices}
 use Rattle.desk_requests.specs.State.{in_force, is_closed, number_after}
+use Rattle.desk_requests.specs.declared.decider.Due.{Due}
+use Rattle.desk_requests.specs.declared.decider.Due.TheVariants as due
+use Rattle.desk_requests.specs.declared.decider.Seat.{Seat}
 use Rattle.desk_requests.specs.declared.gate.Gate.{Gate}
 use Rattle.desk_requests.specs.declared.refused.RefusedLine.{RefusedLine}
 
@@ -34,6 +40,15 @@ Passes old k reading found new =
 abbrev pub PassesText : Gate → ℕ → List ℕ → Option RefusedLine → Gate → Type 0
 PassesText old k bytes found new = (reading : Reading Line) × Reads bytes reading × Passes old k reading found new
 
+-- what is kept of the services is that of the model in force
+abbrev pub Knows : Gate → Type 0
+Knows gate = KnowsServices (arc_value gate.plan) gate.services
+
+-- each client has a lane
+abbrev pub IsSeat : Gate → List ℕ → Option Seat → Type 0
+IsSeat gate name None = ⊥
+IsSeat gate name (Some seat) = seat.is_closed ≡ contains_text gate.closed name
+
 -- Internal from here on.
 
 -- what is refused of a line that says nothing
@@ -43,3 +58,15 @@ unread k heard.Long = refused k word.Long ∷ []
 unread k heard.Syntax = refused k word.Syntax ∷ []
 unread k heard.Other = refused k word.Shape ∷ []
 unread k (heard.Object members) = refused k word.Shape ∷ []
+
+-- what is due to the line with this number was done, and this is refused of it
+abbrev pub Settles : ℕ → Due (Arc (List ℕ) Global) (Unit {0}) → Gate → Option RefusedLine → Gate → Type 0
+Settles k (due.Loaded plan) old found new =
+    (listed found ≡ []) × (new.closed ≡ old.closed) × (arc_value new.plan ≡ arc_value plan) × ((text : List ℕ) → KnowsServices text new.services)
+Settles k (due.Told said) old found new = (listed found ≡ refused_by (report_view said)) × (new ≡ old)
+Settles k (due.Refused name seat why) old found new = (listed found ≡ refused k why ∷ []) × (new ≡ old)
+Settles k (due.Asked name service seat made) old found new = (listed found ≡ []) × (new ≡ old)
+Settles k (due.Closed name seat) old found new =
+    (listed found ≡ []) × (new.plan ≡ old.plan) × (new.services ≡ old.services)
+    × ((other : List ℕ) → contains_text new.closed other ≡ (bytes_eq name.now other || contains_text old.closed other))
+Settles k (due.Resized name seat n) old found new = (listed found ≡ []) × (new ≡ old)

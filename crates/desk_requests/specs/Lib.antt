@@ -6,4 +6,5 @@ pub mod Due
 pub mod Register
 pub mod Refused
 pub mod Services
+pub mod Decider
 pub mod Gate

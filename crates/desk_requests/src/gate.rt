@@ -1,29 +1,25 @@
 //! Which lines are refused where each client has a lane.
-ghost use Rattle.std.specs.Prelude.{◌≡◌, ◌||◌, ℕ, List, [], ◌∷◌, IfOk, OnOk, Some, None, bytes_eq, is_ok, true};
+ghost use Rattle.std.specs.Prelude.{◌≡◌, ◌||◌, ℕ, List, [], ◌∷◌, IfOk, OnOk, bytes_eq, is_ok, true};
 ghost use Rattle.std.specs.Arc.{arc_value};
 ghost use Rattle.std.specs.BTreeSet.{contains_text};
 ghost use Rattle.serde_json.specs.Data.{Data};
-ghost use Rattle.serde_json.specs.View.{view};
 ghost use Rattle.serde_json.specs.Written.{compact_text};
 ghost use Rattle.dmn_plan.specs.ReadModel.{read_model};
-ghost use Rattle.dmn_plan.specs.Request.{request_of};
 ghost use Rattle.desk_wire.specs.Heard.{IsHeardAs};
 ghost use Rattle.desk_wire.specs.Reading.{Says};
-ghost use Rattle.desk_requests.specs.Due.{close_answer, model_answer, resize_answer, task_answer};
-ghost use Rattle.desk_requests.specs.Gate.{IsOpenAfter, Passes, PassesText, listed, unread};
+ghost use Rattle.desk_wire.specs.ReportView.{report_view};
+ghost use Rattle.desk_requests.specs.Gate.{IsOpenAfter, Passes, PassesText, Settles, listed, unread};
 ghost use Rattle.desk_requests.specs.Line.{Model};
 ghost use Rattle.desk_requests.specs.LineView.{line_view};
 ghost use Rattle.desk_requests.specs.Refused as specs;
 ghost use Rattle.desk_requests.specs.Refused.{refused_by};
-ghost use Rattle.desk_requests.specs.Services.{KnowsServices};
-ghost use Rattle.desk_requests.specs.State.{newer_model};
 
+use crate::decider::{Decider, Due, Seat, decide};
 use crate::line::{Line, line_heard};
 use crate::refused::RefusedLine;
-use crate::register::MOST_OUTSTANDING;
 use crate::services::Services;
-use desk_wire::{Heard, Word};
-use dmn_plan::{ModelFault, Plan};
+use desk_wire::{Heard, Report, Told, Word};
+use dmn_plan::{ModelFault, Plan, TaskFault};
 use serde_json::Value;
 use std::alloc::{AllocError, Global};
 use std::collections::BTreeSet;
@@ -62,96 +58,96 @@ fn unread_line(number: u64, heard: &Heard<'_>) -> Option<RefusedLine>
     }
 }
 
-/// One line of each kind.
-impl Gate {
-    /// A model is in force from the next line on, or its fault is told.
+/// What is refused of a client's line.
+fn refused_told(number: u64, told: Told) -> Option<RefusedLine>
+    ensures { listed result ≡ specs.refused_of_client number told }
+{
+    let Told::Refused(why) = told else {
+        return None;
+    };
+    Some(refused(number, why))
+}
+
+/// The line that a report refuses, if it refuses one.
+fn refused_by(report: Report<'_>) -> Option<RefusedLine>
+    ensures { listed result ≡ specs.refused_by (report_view report.entry) }
+{
+    match report {
+        Report::Loaded(_) => None,
+        Report::Faulty(number, fault) => Some(RefusedLine {
+            number,
+            why: Word::Model,
+            fault: Some(fault),
+        }),
+        Report::Refused(number, why) => Some(refused(number, why)),
+        Report::Of(_, number, told) => refused_told(number, told),
+        Report::Reply(_, _, _) => None,
+    }
+}
+
+impl Decider for Gate {
+    ghost use Rattle.std.specs.Prelude.{◌≡◌, Some};
+    ghost use Rattle.std.specs.Arc.{arc_value};
+    ghost use Rattle.desk_requests.specs.Gate.{IsSeat, Knows};
+
+    type Plan = Arc<Plan>;
+
+    type Made = ();
+
+    ghost Kept = { Unit {0} };
+
+    ghost kept = { λ _. tt };
+
+    ghost text_of = { arc_value };
+
+    ghost force = { λ gate. Some (arc_value gate.plan) };
+
+    ghost Knows = { Knows };
+
+    ghost Keeps = { λ old new. (new.closed ≡ old.closed) × (Knows old → Knows new) };
+
+    ghost Asks = { λ old _ new. new ≡ old };
+
+    ghost IsSeat = { IsSeat };
+
+    ghost IsMade = { λ _ _. Unit {0} };
+
     fn load(
         &mut self,
         alloc: Global,
-        number: u64,
         model: &Value,
-    ) -> Result<Option<RefusedLine>, AllocError>
-        ensures closed { self.new.closed ≡ self.old.closed }
-        ensures model { OnOk result (Some (arc_value self.new.plan) ≡ newer_model (view model.now) (read_model (view model.now)) (Some (arc_value self.old.plan))) }
-        ensures services { OnOk result (KnowsServices (arc_value self.old.plan) self.old.services → KnowsServices (arc_value self.new.plan) self.new.services) }
-        ensures due { IfOk result (λ found. refused_by (model_answer number (read_model (view model.now))) ≡ listed found) }
-    {
+    ) -> Result<Result<Arc<Plan>, Word>, AllocError> {
         match Plan::of(alloc, model) {
             Ok(plan) => {
-                self.plan = Arc::new(alloc, plan)?;
-                self.services = Services::new(alloc);
-                Ok(None)
+                let kept = Arc::new(alloc, plan)?;
+                Ok(Ok(kept))
             }
             Err(fault) => match fault {
                 ModelFault::Memory => Err(AllocError),
-                fault => Ok(Some(RefusedLine {
-                    number,
-                    why: Word::Model,
-                    fault: Some(Word::of_fault(fault)),
-                })),
+                fault => Ok(Err(Word::of_fault(fault))),
             },
         }
     }
 
-    /// Whether a client is closed.
-    fn is_closed(&self, name: &str) -> bool
-        ensures { result ≡ contains_text self.now.closed name.now }
-    {
-        self.closed.contains(name)
-    }
-
-    /// A request is refused where the model has no such service, where its inputs are no values, and where its client is closed.
-    fn ask(
+    fn make(
         &mut self,
         alloc: Global,
-        number: u64,
-        name: &str,
         service: &str,
         inputs: &Value,
-    ) -> Result<Option<RefusedLine>, AllocError>
-        ensures same { (self.new.plan ≡ self.old.plan) × (self.new.closed ≡ self.old.closed) }
-        ensures services { OnOk result (KnowsServices (arc_value self.old.plan) self.old.services → KnowsServices (arc_value self.new.plan) self.new.services) }
-        ensures due { IfOk result (λ found. KnowsServices (arc_value self.old.plan) self.old.services → (ticket : ℕ) →
-            refused_by (task_answer number name.now (contains_text self.old.closed name.now) ticket (request_of (arc_value self.old.plan) service.now (view inputs.now))) ≡ listed found) }
-    {
+    ) -> Result<Option<Result<(), TaskFault>>, AllocError> {
         let fault = self.services.fault_of(alloc, &self.plan, service, inputs)?;
         match fault {
-            Some(fault) => Ok(Some(refused(number, Word::of_task_fault(fault)))),
-            None if self.is_closed(name) => Ok(Some(refused(number, Word::Closed))),
-            None => Ok(None),
+            Some(fault) => Ok(Some(Err(fault))),
+            None => Ok(Some(Ok(()))),
         }
     }
 
-    /// A client is closed; that it was is refused.
-    fn close(
-        &mut self,
-        alloc: Global,
-        number: u64,
-        name: &str,
-    ) -> Result<Option<RefusedLine>, AllocError>
-        ensures plan { (self.new.plan ≡ self.old.plan) × (self.new.services ≡ self.old.services) }
-        ensures closes { OnOk result ((other : List ℕ) → contains_text self.new.closed other ≡ (bytes_eq name.now other || contains_text self.old.closed other)) }
-        ensures due { IfOk result (λ found. refused_by (close_answer number name.now true (contains_text self.old.closed name.now)) ≡ listed found) }
-    {
-        if self.is_closed(name) {
-            return Ok(Some(refused(number, Word::Closed)));
-        }
-        let name = String::from_str(alloc, name)?;
-        self.closed.insert(name)?;
-        Ok(None)
-    }
-
-    /// A capacity is refused where the client is closed, and where it is none.
-    fn resize(&self, number: u64, name: &str, capacity: u32) -> Option<RefusedLine>
-        ensures { refused_by (resize_answer number name.now capacity true (contains_text self.now.closed name.now)) ≡ listed result }
-    {
-        if self.is_closed(name) {
-            return Some(refused(number, Word::Closed));
-        }
-        if capacity == 0 || capacity > MOST_OUTSTANDING {
-            return Some(refused(number, Word::Capacity));
-        }
-        None
+    fn seat(&mut self, _alloc: Global, name: &str) -> Result<Option<Seat>, AllocError> {
+        let is_closed = self.closed.contains(name);
+        Ok(Some(Seat {
+            place: 0,
+            is_closed,
+        }))
     }
 }
 
@@ -168,6 +164,42 @@ impl Gate {
         }
     }
 
+    /// A client is closed.
+    fn close(&mut self, alloc: Global, name: &str) -> Result<(), AllocError>
+        ensures same { (self.new.plan ≡ self.old.plan) × (self.new.services ≡ self.old.services) }
+        ensures closes { OnOk result ((other : List ℕ) → contains_text self.new.closed other ≡ (bytes_eq name.now other || contains_text self.old.closed other)) }
+    {
+        let name = String::from_str(alloc, name)?;
+        self.closed.insert(name)?;
+        Ok(())
+    }
+
+    /// Does what is due to a line, and tells whether the line is refused.
+    fn settle(
+        &mut self,
+        alloc: Global,
+        number: u64,
+        due: Due<'_, Arc<Plan>, ()>,
+    ) -> Result<Option<RefusedLine>, AllocError>
+        ensures { IfOk result (λ found. Settles number due.entry self.old found self.new) }
+    {
+        match due {
+            Due::Loaded(plan) => {
+                self.plan = plan;
+                self.services = Services::new(alloc);
+                Ok(None)
+            }
+            Due::Told(report) => Ok(refused_by(report)),
+            Due::Refused(_, _, why) => Ok(Some(refused(number, why))),
+            Due::Asked(_, _, _, _) => Ok(None),
+            Due::Closed(name, _) => {
+                self.close(alloc, name)?;
+                Ok(None)
+            }
+            Due::Resized(_, _, _) => Ok(None),
+        }
+    }
+
     /// Whether a line of one of the forms is refused.
     fn pass_line(
         &mut self,
@@ -177,18 +209,9 @@ impl Gate {
     ) -> Result<Option<RefusedLine>, AllocError>
         ensures { IfOk result (λ found. Passes self.old number (Says (line_view says.now)) found self.new) }
     {
-        match says {
-            Line::Model(model) => self.load(alloc, number, model),
-            Line::Request(name, service, inputs) => {
-                let found = self.ask(alloc, number, name, service, inputs)?;
-                Ok(found)
-            }
-            Line::Close(name) => {
-                let found = self.close(alloc, number, name)?;
-                Ok(found)
-            }
-            Line::Resize(name, capacity) => Ok(self.resize(number, name, *capacity)),
-        }
+        let due = decide(alloc, self, number, says)?;
+        let found = self.settle(alloc, number, due)?;
+        Ok(found)
     }
 
     /// Whether the line with this number is refused, and why. Where memory is refused the gate is of no more use. The time is in

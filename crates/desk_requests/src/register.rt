@@ -1,27 +1,21 @@
 //! What stands between the lines where each is answered before the next is read, and what each line is answered with.
-ghost use Rattle.std.specs.Prelude.{◌≡◌, ◌<◌, [], IfOk, IfNone, IfSome, Ok, OnOk, Some, false, if◌then◌else◌, length, not, option_map, slice_get, slice_set};
+ghost use Rattle.std.specs.Prelude.{◌≡◌, ◌<◌, [], IfOk, IfNone, IfSome, OnOk, Some, false, length, option_map, slice_get, slice_set};
 ghost use Rattle.std.specs.Arc.{arc_value};
 ghost use Rattle.feel_value.specs.Distinct.{is_among};
-ghost use Rattle.serde_json.specs.View.{view};
-ghost use Rattle.desk_wire.specs.Reports.{Of};
-ghost use Rattle.desk_wire.specs.declared.report.Report.TheVariants as report;
-ghost use Rattle.desk_wire.specs.declared.report.Told.TheVariants as told;
-ghost use Rattle.desk_requests.specs.Due.{close_answer, task_answer};
-ghost use Rattle.desk_requests.specs.Line.{Model, Request, Close, Resize};
+ghost use Rattle.dmn_plan.specs.Request.{request_result};
+ghost use Rattle.desk_wire.specs.Reports.{Reply};
+ghost use Rattle.desk_requests.specs.Decider.{IsAt};
 ghost use Rattle.desk_requests.specs.LineView.{line_view};
-ghost use Rattle.desk_requests.specs.declared.register.Answer.TheVariants as answer;
 ghost use Rattle.desk_requests.specs.Register as specs;
-ghost use Rattle.desk_requests.specs.Register.{Answers, AsksBy, AsksFor, StandsAfter, answer_view, clients_of, force_of, names_of, with_accepted, with_client, with_closed};
+ghost use Rattle.desk_requests.specs.Register.{Answers, AsksBy, AsksFor, IsSeat, Settles, StandsAfter, answer_view, clients_of, force_of, names_of, with_accepted, with_client, with_closed};
 
+use crate::decider::{Decider, Due, Seat, decide};
 use crate::line::Line;
 use desk_wire::{Report, Told, Word};
 use dmn_plan::{ModelFault, Plan, Task, TaskFault};
 use serde_json::Value;
 use std::alloc::{AllocError, Global};
 use std::sync::Arc;
-
-/// The most requests that a lane may have outstanding.
-pub(crate) const MOST_OUTSTANDING: u32 = 4096;
 
 /// A client that has a lane: how many of its requests were accepted, and whether it is closed.
 #[derive(Drop)]
@@ -59,13 +53,6 @@ pub enum Answer<'a> {
     Told(Report<'a>),
     /// The reply to a request.
     Asked(Asked<'a>),
-}
-
-/// The refusal of a client's line.
-fn refused<'a>(name: &'a str, number: u64, why: Word) -> Answer<'a>
-    ensures { result ≡ answer.Told (report.Of name.entry number (told.Refused why)) }
-{
-    Answer::Told(Report::Of(name, number, Told::Refused(why)))
 }
 
 /// One client's place.
@@ -106,25 +93,21 @@ impl Register {
         Ok(Some(place))
     }
 
-    /// A task of the client at a place is accepted under its next ticket, or refused where the client is closed.
+    /// A task of the client at a place is accepted under its next ticket.
     fn accept<'a>(
         &mut self,
         place: usize,
-        number: u64,
         name: &'a str,
         service: &'a str,
         task: Task,
     ) -> Answer<'a>
         requires { slice_get (names_of self.old) place ≡ Some name.now }
         ensures same { (self.new.plan ≡ self.old.plan) × (self.new.lanes ≡ self.old.lanes) }
-        ensures told { (client : specs.Client) → slice_get (clients_of self.old) place ≡ Some client → answer_view result ≡ task_answer number name.now client.closed client.accepted (Ok task) }
-        ensures counts { (client : specs.Client) → slice_get (clients_of self.old) place ≡ Some client → clients_of self.new ≡ (if client.closed then clients_of self.old else slice_set (clients_of self.old) place (with_accepted client)) }
+        ensures told { (client : specs.Client) → slice_get (clients_of self.old) place ≡ Some client → answer_view result ≡ Reply name.now client.accepted (request_result task) }
+        ensures counts { (client : specs.Client) → slice_get (clients_of self.old) place ≡ Some client → clients_of self.new ≡ slice_set (clients_of self.old) place (with_accepted client) }
         ensures asked { AsksFor name.now service.now task result }
     {
         let client = &mut self.clients[place];
-        if client.is_closed {
-            return refused(name, number, Word::Closed);
-        }
         let ticket = client.accepted;
         client.accepted = ticket.wrapping_add(1);
         Answer::Asked(Asked {
@@ -135,17 +118,14 @@ impl Register {
         })
     }
 
-    /// The client at a place is closed. False where it was.
-    fn close_at(&mut self, place: usize) -> bool
+    /// The client at a place is closed.
+    fn close_at(&mut self, place: usize)
         requires { place < length (clients_of self.old) }
         ensures same { (self.new.plan ≡ self.old.plan) × (self.new.lanes ≡ self.old.lanes) }
-        ensures was { (client : specs.Client) → slice_get (clients_of self.old) place ≡ Some client → result ≡ not client.closed }
         ensures closes { (client : specs.Client) → slice_get (clients_of self.old) place ≡ Some client → clients_of self.new ≡ slice_set (clients_of self.old) place (with_closed client) }
     {
         let client = &mut self.clients[place];
-        let was_open = !client.is_closed;
         client.is_closed = true;
-        was_open
     }
 
     /// Whether the client at a place is closed.
@@ -177,100 +157,30 @@ impl Register {
         self.plan.as_ref()
     }
 
-    /// The model on a line is in force from the next line on, or its fault is told.
-    fn load<'a>(
-        &mut self,
-        alloc: Global,
-        number: u64,
-        model: &Value,
-    ) -> Result<Answer<'a>, AllocError>
+    /// Does what is due to a line, and answers it.
+    fn settle<'a>(&mut self, number: u64, due: Due<'a, Arc<Plan>, Task>) -> Answer<'a>
+        requires { IsAt IsSeat self.old due }
         ensures lanes { self.new.lanes ≡ self.old.lanes }
-        ensures answers { IfOk result (λ answer. Answers self.old number (Model (view model.now)) answer self.new) }
-        ensures asks { IfOk result (λ answer. AsksBy (force_of self.old) (Model (view model.now)) answer) }
+        ensures settles { Settles number due.entry self.old result self.new }
     {
-        match Plan::of(alloc, model) {
-            Ok(plan) => {
-                self.plan = Some(Arc::new(alloc, plan)?);
-                Ok(Answer::Told(Report::Loaded(number)))
+        match due {
+            Due::Loaded(plan) => {
+                self.plan = Some(plan);
+                Answer::Told(Report::Loaded(number))
             }
-            Err(fault) => match fault {
-                ModelFault::Memory => Err(AllocError),
-                fault => Ok(Answer::Told(Report::Faulty(number, Word::of_fault(fault)))),
-            },
+            Due::Told(report) => Answer::Told(report),
+            Due::Refused(name, _, why) => {
+                Answer::Told(Report::Of(name, number, Told::Refused(why)))
+            }
+            Due::Asked(name, service, seat, task) => self.accept(seat.place, name, service, task),
+            Due::Closed(name, seat) => {
+                self.close_at(seat.place);
+                Answer::Told(Report::Of(name, number, Told::Closed))
+            }
+            Due::Resized(name, _, capacity) => {
+                Answer::Told(Report::Of(name, number, Told::Resized(capacity)))
+            }
         }
-    }
-
-    /// A client's request is accepted, or the first refusal that applies is told.
-    fn ask<'a>(
-        &mut self,
-        alloc: Global,
-        number: u64,
-        name: &'a str,
-        service: &'a str,
-        inputs: &Value,
-    ) -> Result<Answer<'a>, AllocError>
-        ensures lanes { self.new.lanes ≡ self.old.lanes }
-        ensures answers { IfOk result (λ answer. Answers self.old number (Request name.now service.now (view inputs.now)) answer self.new) }
-        ensures asks { IfOk result (λ answer. AsksBy (force_of self.old) (Request name.now service.now (view inputs.now)) answer) }
-    {
-        let Some(plan) = &self.plan else {
-            return Ok(refused(name, number, Word::Model));
-        };
-        let plan = Arc::try_clone(plan)?;
-        let Some(place) = self.place_for(alloc, name)? else {
-            return Ok(refused(name, number, Word::Clients));
-        };
-        match Task::new(alloc, plan, service, inputs) {
-            Ok(task) => Ok(self.accept(place, number, name, service, task)),
-            Err(fault) => match fault {
-                TaskFault::Memory => Err(AllocError),
-                fault => Ok(refused(name, number, Word::of_task_fault(fault))),
-            },
-        }
-    }
-
-    /// A client is closed, or the first refusal that applies is told.
-    fn close<'a>(
-        &mut self,
-        alloc: Global,
-        number: u64,
-        name: &'a str,
-    ) -> Result<Answer<'a>, AllocError>
-        ensures lanes { self.new.lanes ≡ self.old.lanes }
-        ensures answers { IfOk result (λ answer. Answers self.old number (Close name.now) answer self.new) }
-        ensures asks { IfOk result (λ answer. AsksBy (force_of self.old) (Close name.now) answer) }
-    {
-        let Some(place) = self.place_for(alloc, name)? else {
-            return Ok(refused(name, number, Word::Clients));
-        };
-        if !self.close_at(place) {
-            return Ok(refused(name, number, Word::Closed));
-        }
-        Ok(Answer::Told(Report::Of(name, number, Told::Closed)))
-    }
-
-    /// A client is given a capacity, or the first refusal that applies is told.
-    fn resize<'a>(
-        &mut self,
-        alloc: Global,
-        number: u64,
-        name: &'a str,
-        capacity: u32,
-    ) -> Result<Answer<'a>, AllocError>
-        ensures lanes { self.new.lanes ≡ self.old.lanes }
-        ensures answers { IfOk result (λ answer. Answers self.old number (Resize name.now capacity) answer self.new) }
-        ensures asks { IfOk result (λ answer. AsksBy (force_of self.old) (Resize name.now capacity) answer) }
-    {
-        let Some(place) = self.place_for(alloc, name)? else {
-            return Ok(refused(name, number, Word::Clients));
-        };
-        if self.is_closed_at(place) {
-            return Ok(refused(name, number, Word::Closed));
-        }
-        if capacity == 0 || capacity > MOST_OUTSTANDING {
-            return Ok(refused(name, number, Word::Capacity));
-        }
-        Ok(Answer::Told(Report::Of(name, number, Told::Resized(capacity))))
     }
 
     /// What the line with this number is answered with: the report that `serve` gives, or the request whose reply it gives. Where
@@ -285,11 +195,81 @@ impl Register {
         ensures answers { IfOk result (λ answer. Answers self.old number (line_view says.now) answer self.new) }
         ensures asks { IfOk result (λ answer. AsksBy (force_of self.old) (line_view says.now) answer) }
     {
-        match says {
-            Line::Model(model) => self.load(alloc, number, model),
-            Line::Request(name, service, inputs) => self.ask(alloc, number, name, service, inputs),
-            Line::Close(name) => self.close(alloc, number, name),
-            Line::Resize(name, capacity) => self.resize(alloc, number, name, *capacity),
+        let due = decide(alloc, self, number, says)?;
+        Ok(self.settle(number, due))
+    }
+}
+
+impl Decider for Register {
+    ghost use Rattle.std.specs.Prelude.{◌≡◌, ℕ};
+    ghost use Rattle.std.specs.Arc.{arc_value};
+    ghost use Rattle.desk_requests.specs.Register.{Asks, IsSeat, Keeps, force_of};
+
+    type Plan = Arc<Plan>;
+
+    type Made = Task;
+
+    ghost Kept = { ℕ };
+
+    ghost kept = { λ register. register.lanes };
+
+    ghost text_of = { arc_value };
+
+    ghost force = { force_of };
+
+    ghost Knows = { λ _. Unit {0} };
+
+    ghost Keeps = { Keeps };
+
+    ghost Asks = { Asks };
+
+    ghost IsSeat = { IsSeat };
+
+    ghost IsMade = { λ task q. task ≡ q };
+
+    fn load(
+        &mut self,
+        alloc: Global,
+        model: &Value,
+    ) -> Result<Result<Arc<Plan>, Word>, AllocError> {
+        match Plan::of(alloc, model) {
+            Ok(plan) => {
+                let kept = Arc::new(alloc, plan)?;
+                Ok(Ok(kept))
+            }
+            Err(fault) => match fault {
+                ModelFault::Memory => Err(AllocError),
+                fault => Ok(Err(Word::of_fault(fault))),
+            },
         }
+    }
+
+    fn make(
+        &mut self,
+        alloc: Global,
+        service: &str,
+        inputs: &Value,
+    ) -> Result<Option<Result<Task, TaskFault>>, AllocError> {
+        let Some(plan) = &self.plan else {
+            return Ok(None);
+        };
+        let plan = Arc::try_clone(plan)?;
+        match Task::new(alloc, plan, service, inputs) {
+            Ok(task) => Ok(Some(Ok(task))),
+            Err(fault) => match fault {
+                TaskFault::Memory => Err(AllocError),
+                fault => Ok(Some(Err(fault))),
+            },
+        }
+    }
+
+    fn seat(&mut self, alloc: Global, name: &str) -> Result<Option<Seat>, AllocError> {
+        let Some(place) = self.place_for(alloc, name)? else {
+            return Ok(None);
+        };
+        Ok(Some(Seat {
+            place,
+            is_closed: self.is_closed_at(place),
+        }))
     }
 }

@@ -12,9 +12,11 @@ use Rattle.feel_value.specs.declared.logic.Truth.TheVariants.{Yes, No, Unknown}
 use Rattle.dmn_ranges.specs.Numbers.{are_less, reach}
 use Rattle.dmn_ranges.specs.Ranges.{within, lies_in}
 use Rattle.dmn_ranges.specs.Steps.{is_other, is_other_than_text, less_truths, equal_truths, can_equal, can_differ, has_only, is_alike}
+use Rattle.dmn_ranges.specs.Texts.{is_some_text}
 use Rattle.dmn_ranges.specs.declared.interval.Interval.{Interval}
 use Rattle.dmn_ranges.specs.declared.range.Range.{Range}
 use Rattle.dmn_ranges.proofs.Equalities.{yes_told, no_told}
+use Rattle.dmn_ranges.proofs.FewTexts.{has_some}
 use Rattle.dmn_ranges.proofs.Intervals.{less_in, reach_in}
 use Rattle.dmn_ranges.proofs.Joins.{or_left, or_right, and_both, list_in, context_in, or_cases, not_cases, is_number, is_text, other_in, no_text_in}
 use Rattle.dmn_ranges.proofs.TruthSets.{tells}
@@ -40,12 +42,12 @@ no_texts a b d e h k r = no_texts_by a b d e (is_text d) (is_text e) h k refl re
 -- ---- less
 
 numbers_by : (a b : Range) (x y : ℤ) (t : Bool) → int_lt x y ≡ t → lies_in a (number x) ≡ true → lies_in b (number y) ≡ true → tells (less_truths a b) (decided t) ≡ true
-numbers_by a b x y true l h k = or_left (are_less a.numbers b.numbers) (a.texts && b.texts) (less_in a.numbers b.numbers x y h k l)
-numbers_by a b x y false l h k = or_left (reach a.numbers b.numbers) (a.texts && b.texts) (reach_in a.numbers b.numbers x y h k l)
+numbers_by a b x y true l h k = or_left (are_less a.numbers b.numbers) (is_some_text a.texts && is_some_text b.texts) (less_in a.numbers b.numbers x y h k l)
+numbers_by a b x y false l h k = or_left (reach a.numbers b.numbers) (is_some_text a.texts && is_some_text b.texts) (reach_in a.numbers b.numbers x y h k l)
 
-texts_by : (a b : Range) (t : Bool) → a.texts ≡ true → b.texts ≡ true → tells (less_truths a b) (decided t) ≡ true
-texts_by a b true h k = or_right (are_less a.numbers b.numbers) (a.texts && b.texts) (and_both a.texts b.texts h k)
-texts_by a b false h k = or_right (reach a.numbers b.numbers) (a.texts && b.texts) (and_both a.texts b.texts h k)
+texts_by : (a b : Range) (t : Bool) → is_some_text a.texts ≡ true → is_some_text b.texts ≡ true → tells (less_truths a b) (decided t) ≡ true
+texts_by a b true h k = or_right (are_less a.numbers b.numbers) (is_some_text a.texts && is_some_text b.texts) (and_both (is_some_text a.texts) (is_some_text b.texts) h k)
+texts_by a b false h k = or_right (reach a.numbers b.numbers) (is_some_text a.texts && is_some_text b.texts) (and_both (is_some_text a.texts) (is_some_text b.texts) h k)
 
 unknown_told : (a b : Range) (d e : Datum) → lies_in a d ≡ true → lies_in b e ≡ true → (is_number d && is_number e) ≡ false → (is_text d && is_text e) ≡ false → tells (less_truths a b) Unknown ≡ true
 unknown_told a b d e h k r s =
@@ -53,7 +55,7 @@ unknown_told a b d e h k r s =
 
 pub less_told : (a b : Range) (d e : Datum) → lies_in a d ≡ true → lies_in b e ≡ true → tells (less_truths a b) (less d e) ≡ true
 less_told a b (number x) (number y) h k = numbers_by a b x y (int_lt x y) refl h k
-less_told a b (text s) (text t) h k = texts_by a b (is_lt (slice_cmp nat_cmp (chars s) (chars t))) h k
+less_told a b (text s) (text t) h k = texts_by a b (is_lt (slice_cmp nat_cmp (chars s) (chars t))) (has_some a.texts s h) (has_some b.texts t k)
 less_told a b d e h k = unknown_told a b d e h k refl refl
 
 -- ---- equal
@@ -81,21 +83,21 @@ some_number : (o : Option Interval) (z : ℤ) → within o z ≡ true → is_som
 some_number None z h = cc
 some_number (Some i) z h = refl
 
-kind_by : (a : Range) (truths numbers texts : Bool) (d : Datum) → (truths || not (a.trues || a.falses)) ≡ true → (numbers || not (is_some a.numbers)) ≡ true → (texts || not a.texts) ≡ true → not (a.lists || a.contexts) ≡ true
+kind_by : (a : Range) (truths numbers texts : Bool) (d : Datum) → (truths || not (a.trues || a.falses)) ≡ true → (numbers || not (is_some a.numbers)) ≡ true → (texts || not (is_some_text a.texts)) ≡ true → not (a.lists || a.contexts) ≡ true
     → lies_in a d ≡ true → is_kind truths numbers texts d ≡ true
 kind_by a truths numbers texts null p q r s h = refl
 kind_by a truths numbers texts (boolean true) p q r s h = denied truths (a.trues || a.falses) p (or_left a.trues a.falses h)
 kind_by a truths numbers texts (boolean false) p q r s h = denied truths (a.trues || a.falses) p (or_right a.trues a.falses h)
 kind_by a truths numbers texts (number z) p q r s h = denied numbers (is_some a.numbers) q (some_number a.numbers z h)
-kind_by a truths numbers texts (text t) p q r s h = denied texts a.texts r h
+kind_by a truths numbers texts (text t) p q r s h = denied texts (is_some_text a.texts) r (has_some a.texts t h)
 kind_by a truths numbers texts (list ds) p q r s h = absurd ((none_of a.lists a.contexts s).0 (list_in a ds h))
 kind_by a truths numbers texts (context es) p q r s h = absurd ((none_of a.lists a.contexts s).1 (context_in a es h))
 
 kind_of : (a : Range) (truths numbers texts : Bool) (d : Datum) → has_only a truths numbers texts ≡ true → lies_in a d ≡ true → is_kind truths numbers texts d ≡ true
 kind_of a truths numbers texts d only h =
-    let parts = both_true ((truths || not (a.trues || a.falses)) && (numbers || not (is_some a.numbers))) ((texts || not a.texts) && not (a.lists || a.contexts)) only in
+    let parts = both_true ((truths || not (a.trues || a.falses)) && (numbers || not (is_some a.numbers))) ((texts || not (is_some_text a.texts)) && not (a.lists || a.contexts)) only in
     let first = both_true (truths || not (a.trues || a.falses)) (numbers || not (is_some a.numbers)) parts.0 in
-    let second = both_true (texts || not a.texts) (not (a.lists || a.contexts)) parts.1 in
+    let second = both_true (texts || not (is_some_text a.texts)) (not (a.lists || a.contexts)) parts.1 in
     kind_by a truths numbers texts d first.0 first.1 second.0 second.1 h
 
 decided_known : (t : Bool) → decided t ≡ Unknown → ⊥

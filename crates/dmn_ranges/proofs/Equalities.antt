@@ -1,6 +1,6 @@
 -- Values that are equal, or that differ, and what that says of their ranges.
 use Rattle.std.proofs.Common.{◌≡◌, refl, ℤ, Bool, true, false, ◌&&◌, ◌||◌, Option, arith}
-use Rattle.std.specs.Prelude.{int_lt, is_some}
+use Rattle.std.specs.Prelude.{int_lt, is_some, bytes_eq}
 use Rattle.std.specs.Ordering.{int_cmp, is_eq}
 use Rattle.std.proofs.lemmas.Int.{ints}
 use Rattle.feel_value.specs.Comparison.{equal}
@@ -10,8 +10,10 @@ use Rattle.feel_value.specs.declared.logic.Truth.TheVariants.{Yes, No}
 use Rattle.dmn_ranges.specs.Numbers.{are_less, reach}
 use Rattle.dmn_ranges.specs.Ranges.{within, lies_in}
 use Rattle.dmn_ranges.specs.Steps.{is_not_null, can_equal, can_differ}
+use Rattle.dmn_ranges.specs.Texts.{is_some_text, meet, differ}
 use Rattle.dmn_ranges.specs.declared.interval.Interval.{Interval}
 use Rattle.dmn_ranges.specs.declared.range.Range.{Range}
+use Rattle.dmn_ranges.proofs.FewTexts.{has_some, same_meet, others_differ}
 use Rattle.dmn_ranges.proofs.Intervals.{less_in, reach_in}
 use Rattle.dmn_ranges.proofs.Joins.{or_left, or_right, and_both, some_within, list_in, context_in}
 
@@ -24,9 +26,9 @@ not_null_in r null h k = cc
 not_null_in r (boolean true) h k = or_left _ _ (or_left r.trues r.falses h)
 not_null_in r (boolean false) h k = or_left _ _ (or_right r.trues r.falses h)
 not_null_in r (number z) h k = or_right (r.trues || r.falses) _ (or_left _ _ (some_within r.numbers z h))
-not_null_in r (text s) h k = or_right (r.trues || r.falses) _ (or_right (is_some r.numbers) _ (or_left _ _ h))
-not_null_in r (list ds) h k = or_right (r.trues || r.falses) _ (or_right (is_some r.numbers) _ (or_right r.texts _ (or_left _ _ (list_in r ds h))))
-not_null_in r (context es) h k = or_right (r.trues || r.falses) _ (or_right (is_some r.numbers) _ (or_right r.texts _ (or_right r.lists _ (context_in r es h))))
+not_null_in r (text s) h k = or_right (r.trues || r.falses) _ (or_right (is_some r.numbers) _ (or_left _ _ (has_some r.texts s h)))
+not_null_in r (list ds) h k = or_right (r.trues || r.falses) _ (or_right (is_some r.numbers) _ (or_right (is_some_text r.texts) _ (or_left _ _ (list_in r ds h))))
+not_null_in r (context es) h k = or_right (r.trues || r.falses) _ (or_right (is_some r.numbers) _ (or_right (is_some_text r.texts) _ (or_right r.lists _ (context_in r es h))))
 
 pub decided_yes : (t : Bool) → decided t ≡ Yes → t ≡ true
 decided_yes true h = refl
@@ -62,8 +64,9 @@ other_numbers o p x y h k e = other_numbers_by o p x y (int_lt x y) refl h k e
 abbrev plain_equal : Range → Range → Bool
 plain_equal a b = (a.nulls && b.nulls) || ((a.trues && b.trues) || (a.falses && b.falses))
 
-abbrev kinds_shared : Range → Range → Bool
-kinds_shared a b = (a.texts && b.texts) || ((a.lists && b.lists) || (a.contexts && b.contexts))
+-- this is said of texts, or both have lists or contexts
+abbrev kinds_shared : Bool → Range → Range → Bool
+kinds_shared t a b = t || ((a.lists && b.lists) || (a.contexts && b.contexts))
 
 abbrev numbers_meet : Range → Range → Bool
 numbers_meet a b = reach a.numbers b.numbers && reach b.numbers a.numbers
@@ -74,23 +77,23 @@ numbers_part a b = are_less a.numbers b.numbers || are_less b.numbers a.numbers
 abbrev plain_differ : Range → Range → Bool
 plain_differ a b = ((a.nulls && is_not_null b) || (b.nulls && is_not_null a)) || ((a.trues && b.falses) || (a.falses && b.trues))
 
-texts_shared : (a b : Range) → a.texts ≡ true → b.texts ≡ true → kinds_shared a b ≡ true
-texts_shared a b h k = or_left (a.texts && b.texts) _ (and_both a.texts b.texts h k)
+texts_shared : (t : Bool) (a b : Range) → t ≡ true → kinds_shared t a b ≡ true
+texts_shared t a b h = or_left t _ h
 
-lists_shared : (a b : Range) → a.lists ≡ true → b.lists ≡ true → kinds_shared a b ≡ true
-lists_shared a b h k = or_right (a.texts && b.texts) _ (or_left (a.lists && b.lists) _ (and_both a.lists b.lists h k))
+lists_shared : (t : Bool) (a b : Range) → a.lists ≡ true → b.lists ≡ true → kinds_shared t a b ≡ true
+lists_shared t a b h k = or_right t _ (or_left (a.lists && b.lists) _ (and_both a.lists b.lists h k))
 
-contexts_shared : (a b : Range) → a.contexts ≡ true → b.contexts ≡ true → kinds_shared a b ≡ true
-contexts_shared a b h k = or_right (a.texts && b.texts) _ (or_right (a.lists && b.lists) _ (and_both a.contexts b.contexts h k))
+contexts_shared : (t : Bool) (a b : Range) → a.contexts ≡ true → b.contexts ≡ true → kinds_shared t a b ≡ true
+contexts_shared t a b h k = or_right t _ (or_right (a.lists && b.lists) _ (and_both a.contexts b.contexts h k))
 
 pub yes_told : (a b : Range) (d e : Datum) → lies_in a d ≡ true → lies_in b e ≡ true → equal d e ≡ Yes → can_equal a b ≡ true
 yes_told a b null null h k q = or_left (plain_equal a b) _ (or_left (a.nulls && b.nulls) _ (and_both a.nulls b.nulls h k))
 yes_told a b (boolean true) (boolean true) h k q = or_left (plain_equal a b) _ (or_right (a.nulls && b.nulls) _ (or_left (a.trues && b.trues) _ (and_both a.trues b.trues h k)))
 yes_told a b (boolean false) (boolean false) h k q = or_left (plain_equal a b) _ (or_right (a.nulls && b.nulls) _ (or_right (a.trues && b.trues) _ (and_both a.falses b.falses h k)))
 yes_told a b (number x) (number y) h k q = or_right (plain_equal a b) _ (or_left (numbers_meet a b) _ (same_numbers a.numbers b.numbers x y h k (decided_yes (is_eq (int_cmp x y)) q)))
-yes_told a b (text s) (text t) h k q = or_right (plain_equal a b) _ (or_right (numbers_meet a b) _ (texts_shared a b h k))
-yes_told a b (list ds) (list es) h k q = or_right (plain_equal a b) _ (or_right (numbers_meet a b) _ (lists_shared a b (list_in a ds h) (list_in b es k)))
-yes_told a b (context ds) (context es) h k q = or_right (plain_equal a b) _ (or_right (numbers_meet a b) _ (contexts_shared a b (context_in a ds h) (context_in b es k)))
+yes_told a b (text s) (text t) h k q = or_right (plain_equal a b) _ (or_right (numbers_meet a b) _ (texts_shared (meet a.texts b.texts) a b (same_meet a.texts b.texts s t h k (decided_yes (bytes_eq s t) q))))
+yes_told a b (list ds) (list es) h k q = or_right (plain_equal a b) _ (or_right (numbers_meet a b) _ (lists_shared (meet a.texts b.texts) a b (list_in a ds h) (list_in b es k)))
+yes_told a b (context ds) (context es) h k q = or_right (plain_equal a b) _ (or_right (numbers_meet a b) _ (contexts_shared (meet a.texts b.texts) a b (context_in a ds h) (context_in b es k)))
 yes_told a b d e h k q = cc
 
 first_null : (a b : Range) (e : Datum) → a.nulls ≡ true → lies_in b e ≡ true → is_null e ≡ false → can_differ a b ≡ true
@@ -110,7 +113,7 @@ no_told a b (boolean true) (boolean false) h k q =
 no_told a b (boolean false) (boolean true) h k q =
     or_left (plain_differ a b) _ (or_right ((a.nulls && is_not_null b) || (b.nulls && is_not_null a)) _ (or_right (a.trues && b.falses) _ (and_both a.falses b.trues h k)))
 no_told a b (number x) (number y) h k q = or_right (plain_differ a b) _ (or_left (numbers_part a b) _ (other_numbers a.numbers b.numbers x y h k (decided_no (is_eq (int_cmp x y)) q)))
-no_told a b (text s) (text t) h k q = or_right (plain_differ a b) _ (or_right (numbers_part a b) _ (texts_shared a b h k))
-no_told a b (list ds) (list es) h k q = or_right (plain_differ a b) _ (or_right (numbers_part a b) _ (lists_shared a b (list_in a ds h) (list_in b es k)))
-no_told a b (context ds) (context es) h k q = or_right (plain_differ a b) _ (or_right (numbers_part a b) _ (contexts_shared a b (context_in a ds h) (context_in b es k)))
+no_told a b (text s) (text t) h k q = or_right (plain_differ a b) _ (or_right (numbers_part a b) _ (texts_shared (differ a.texts b.texts) a b (others_differ a.texts b.texts s t h k (decided_no (bytes_eq s t) q))))
+no_told a b (list ds) (list es) h k q = or_right (plain_differ a b) _ (or_right (numbers_part a b) _ (lists_shared (differ a.texts b.texts) a b (list_in a ds h) (list_in b es k)))
+no_told a b (context ds) (context es) h k q = or_right (plain_differ a b) _ (or_right (numbers_part a b) _ (contexts_shared (differ a.texts b.texts) a b (context_in a ds h) (context_in b es k)))
 no_told a b d e h k q = cc

@@ -31,6 +31,7 @@ use Rattle.dmn_ranges.specs.declared.range.Range.{Range}
 use Rattle.dmn_ranges.specs.declared.size.Size.{Size}
 use Rattle.dmn_ranges.specs.declared.truths.Truths.{Truths}
 use Rattle.dmn_ranges.proofs.Comparisons.{others, less_told, equal_told}
+use Rattle.dmn_ranges.proofs.FewTexts.{has_one, has_other}
 use Rattle.dmn_ranges.proofs.Intervals.{Met, le_same, number_in_all, zero_below, most_above, sum_met, difference_met, product_met, absolute_met, zero_or_not, divisor_in, remainder_met, hull_one, hull_other}
 use Rattle.dmn_ranges.proofs.Joins.{or_left, or_right, and_both, other_in, no_list_in, list_in, list_keeps, context_in, context_keeps}
 use Rattle.dmn_ranges.proofs.Paths.{path_keeps}
@@ -58,7 +59,7 @@ joined_one a b null h = or_left a.nulls b.nulls h
 joined_one a b (boolean true) h = or_left a.trues b.trues h
 joined_one a b (boolean false) h = or_left a.falses b.falses h
 joined_one a b (number z) h = hull_one a.numbers b.numbers z h
-joined_one a b (text s) h = or_left a.texts b.texts h
+joined_one a b (text s) h = has_one a.texts b.texts s h
 joined_one a b (list ds) h = and_both (a.lists || b.lists) (keeps (larger a.size b.size) (list ds)) (or_left a.lists b.lists (list_in a ds h)) (keeps_one a.size b.size (list ds) (list_keeps a ds h))
 joined_one a b (context es) h = and_both (a.contexts || b.contexts) (keeps (larger a.size b.size) (context es)) (or_left a.contexts b.contexts (context_in a es h)) (keeps_one a.size b.size (context es) (context_keeps a es h))
 
@@ -67,7 +68,7 @@ joined_other a b null h = or_right a.nulls b.nulls h
 joined_other a b (boolean true) h = or_right a.trues b.trues h
 joined_other a b (boolean false) h = or_right a.falses b.falses h
 joined_other a b (number z) h = hull_other a.numbers b.numbers z h
-joined_other a b (text s) h = or_right a.texts b.texts h
+joined_other a b (text s) h = has_other a.texts b.texts s h
 joined_other a b (list ds) h = and_both (a.lists || b.lists) (keeps (larger a.size b.size) (list ds)) (or_right a.lists b.lists (list_in b ds h)) (keeps_other a.size b.size (list ds) (list_keeps b ds h))
 joined_other a b (context es) h = and_both (a.contexts || b.contexts) (keeps (larger a.size b.size) (context es)) (or_right a.contexts b.contexts (context_in b es h)) (keeps_other a.size b.size (context es) (context_keeps b es h))
 

@@ -5,8 +5,10 @@ use Rattle.feel_value.proofs.Booleans.{both_true}
 use Rattle.feel_value.specs.Datum.{Datum, null, boolean, number, text, list, context, Items, Entries}
 use Rattle.dmn_ranges.specs.Ranges.{within, keeps, lies_in}
 use Rattle.dmn_ranges.specs.Steps.{is_other, is_other_than_text, is_other_than_list}
+use Rattle.dmn_ranges.specs.Texts.{is_some_text}
 use Rattle.dmn_ranges.specs.declared.interval.Interval.{Interval}
 use Rattle.dmn_ranges.specs.declared.range.Range.{Range}
+use Rattle.dmn_ranges.proofs.FewTexts.{has_some}
 
 pub or_left : (a b : Bool) → a ≡ true → (a || b) ≡ true
 or_left true b h = refl
@@ -58,9 +60,9 @@ other_in r null h k = or_left _ _ (or_left _ _ h)
 other_in r (boolean true) h k = or_left _ _ (or_right r.nulls _ (or_left _ _ h))
 other_in r (boolean false) h k = or_left _ _ (or_right r.nulls _ (or_right r.trues _ h))
 other_in r (number z) h k = cc
-other_in r (text s) h k = or_right _ _ (or_left _ _ h)
-other_in r (list ds) h k = or_right _ _ (or_right r.texts _ (or_left _ _ (list_in r ds h)))
-other_in r (context es) h k = or_right _ _ (or_right r.texts _ (or_right r.lists _ (context_in r es h)))
+other_in r (text s) h k = or_right _ _ (or_left _ _ (has_some r.texts s h))
+other_in r (list ds) h k = or_right _ _ (or_right (is_some_text r.texts) _ (or_left _ _ (list_in r ds h)))
+other_in r (context es) h k = or_right _ _ (or_right (is_some_text r.texts) _ (or_right r.lists _ (context_in r es h)))
 
 -- a value that is no text
 pub no_text_in : (r : Range) (d : Datum) → lies_in r d ≡ true → is_text d ≡ false → is_other_than_text r ≡ true
@@ -82,6 +84,6 @@ no_list_in r null h k = or_left _ _ (or_left _ _ h)
 no_list_in r (boolean true) h k = or_left _ _ (or_right r.nulls _ (or_left _ _ h))
 no_list_in r (boolean false) h k = or_left _ _ (or_right r.nulls _ (or_right r.trues _ h))
 no_list_in r (number z) h k = or_right _ _ (or_left _ _ (some_within r.numbers z h))
-no_list_in r (text s) h k = or_right _ _ (or_right (is_some r.numbers) _ (or_left _ _ h))
+no_list_in r (text s) h k = or_right _ _ (or_right (is_some r.numbers) _ (or_left _ _ (has_some r.texts s h)))
 no_list_in r (list ds) h k = cc
-no_list_in r (context es) h k = or_right _ _ (or_right (is_some r.numbers) _ (or_right r.texts _ (context_in r es h)))
+no_list_in r (context es) h k = or_right _ _ (or_right (is_some r.numbers) _ (or_right (is_some_text r.texts) _ (context_in r es h)))

@@ -1,3 +1,4 @@
+pub mod FewTexts
 pub mod Joins
 pub mod Sizes
 pub mod Paths

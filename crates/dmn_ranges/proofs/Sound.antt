@@ -8,6 +8,7 @@ use Rattle.feel_text.specs.Meaning.{Bindings, den, dens, with_values, modulo_of,
 use Rattle.dmn_ranges.specs.Ranges.{Scope, Fits, covers}
 use Rattle.dmn_ranges.specs.Steps.{outcomes, called, remainders, inverted, negated, paths, operated, between, branches, truths, with_two, no_parts, with_part, members_parts}
 use Rattle.dmn_ranges.specs.declared.parts.Parts.{Parts}
+use Rattle.dmn_ranges.proofs.FewTexts.{has_itself}
 use Rattle.dmn_ranges.proofs.Forms.{with_one_covers, with_two_covers, branches_covers, negated_covers, remainders_cover, natural_covers, operated_covers, between_covers, inverted_covers, called_covers, paths_cover}
 use Rattle.dmn_ranges.proofs.Formed.{MembersTold, member_more, limit_along, list_told}
 use Rattle.dmn_ranges.proofs.Sizes.{none_behind}
@@ -19,7 +20,7 @@ mutual
   sound (Boolean true) xs m h = refl
   sound (Boolean false) xs m h = refl
   sound (Number n) xs m h = natural_covers n
-  sound (Text bytes) xs m h = refl
+  sound (Text bytes) xs m h = has_itself bytes
   sound (Name name) xs m h = h name
   sound (Group e) xs m h = sound e xs m h
   sound (Members es) xs m h = list_told (members_parts no_parts es xs) (dens es m) (members_sound es xs m h no_parts)

@@ -1,6 +1,6 @@
 -- The values that satisfy unary tests lie in what is told of them.
-use Rattle.std.proofs.Common.{◌≡◌, ◌∙◌, refl, sym, ap, subst, ℤ, ◌-ℤ◌, ◌+ℤ◌, pos, Bool, true, false, not, ◌&&◌, ◌||◌, List, [], ◌∷◌, Option, None, Some, if◌then◌else◌, arith}
-use Rattle.std.specs.Prelude.{int_le, int_lt}
+use Rattle.std.proofs.Common.{◌≡◌, ◌∙◌, refl, sym, ap, subst, ℕ, ℤ, ◌-ℤ◌, ◌+ℤ◌, pos, Bool, true, false, not, ◌&&◌, ◌||◌, List, [], ◌∷◌, Option, None, Some, if◌then◌else◌, arith}
+use Rattle.std.specs.Prelude.{int_le, int_lt, bytes_eq}
 use Rattle.std.specs.List.{fold}
 use Rattle.std.specs.Ordering.{int_cmp, is_eq}
 use Rattle.std.proofs.lemmas.Int.{ints}
@@ -12,18 +12,21 @@ use Rattle.feel_value.specs.declared.feel.Outcome.{Outcome}
 use Rattle.feel_value.specs.declared.feel.Outcome.TheVariants.{Is, Limit}
 use Rattle.feel_value.specs.declared.logic.Truth.{Truth}
 use Rattle.feel_value.specs.declared.logic.Truth.TheVariants.{Yes, No, Unknown}
+use Rattle.feel_text.proofs.Bindings.{same_text}
 use Rattle.feel_text.specs.Meaning.{den, least, greatest}
 use Rattle.feel_text.specs.Satisfied.{Answer, Told, Broken, answer, joined, stands_to, low_bound, high_bound, is_in, tested, tested_any, opposite_answer}
 use Rattle.feel_text.specs.Tests.{Bound, Below, AtMost, Above, AtLeast, Test, Compares, Interval, Equals, Tests, Any, OneOf, NoneOf}
 use Rattle.dmn_ranges.specs.Numbers.{least_number, most_number}
-use Rattle.dmn_ranges.specs.Ranges.{Fits, inside, within, lies_in, covers}
+use Rattle.dmn_ranges.specs.Ranges.{Fits, inside, within, is_among, lies_in, covers}
 use Rattle.dmn_ranges.specs.Steps.{nothing, anything, everything, outcomes, is_not_null}
 use Rattle.dmn_ranges.specs.Domains.{is_met, meets}
+use Rattle.dmn_ranges.specs.Texts.{is_some_text}
 use Rattle.dmn_ranges.specs.Constraints.{standing, standing_if, shared, numbers_and_texts, compared_values, between_values, equal_values, alone, test_values, with_test, any_values, is_of_null, or_null, has_null, anything_but, domain_values}
 use Rattle.dmn_ranges.specs.declared.interval.Interval as interval
 use Rattle.dmn_ranges.specs.declared.outcomes.Outcomes.{Outcomes}
 use Rattle.dmn_ranges.specs.declared.range.Range.{Range}
 use Rattle.dmn_ranges.proofs.Equalities.{decided_yes, not_null_in}
+use Rattle.dmn_ranges.proofs.FewTexts.{has_some, any_has, has_any}
 use Rattle.dmn_ranges.proofs.Forms.{joined_one, joined_other}
 use Rattle.dmn_ranges.proofs.Intervals.{le_same, le_trans, le_lt_le, low_of, high_of, number_in_all}
 use Rattle.dmn_ranges.proofs.Joins.{or_left, or_right, and_both, or_cases, list_in, context_in}
@@ -130,7 +133,7 @@ no_less_context es (context gs) = refl
 
 compared_in : (b : Bound) (r : Range) (x d : Datum) → is_value x ≡ true → lies_in r d ≡ true → stands_to b x d ≡ Yes → lies_in (compared_values b r) x ≡ true
 compared_in b r (number x) (number y) v k l = standing_in_if b r.numbers x y (number_of x v) k l
-compared_in b r (text s) (text t) v k l = k
+compared_in b r (text s) (text t) v k l = any_has (is_some_text r.texts) s (has_some r.texts t k)
 compared_in b r (number x) d v k l = absurd (never b (number x) d refl refl l)
 compared_in b r (text s) d v k l = absurd (never b (text s) d refl refl l)
 compared_in b r null d v k l = absurd (never b null d refl (no_less_null d) l)
@@ -168,7 +171,7 @@ both_in o p s t null h k = h
 both_in o p s t (boolean true) h k = h
 both_in o p s t (boolean false) h k = h
 both_in o p s t (number z) h k = shared_in o p z h k
-both_in o p s t (text bytes) h k = and_both s t h k
+both_in o p s t (text bytes) h k = any_has (s && t) bytes (and_both s t (has_any s bytes h) (has_any t bytes k))
 both_in o p s t (list ds) h k = h
 both_in o p s t (context es) h k = h
 
@@ -181,6 +184,13 @@ by_equal x y false e h = absurd (no_answer h)
 same_number : (x y : ℤ) → (is_yes (decided (is_eq (int_cmp x y))) || false) ≡ true → x ≡ y
 same_number x y h = by_equal x y (is_eq (int_cmp x y)) refl h
 
+by_bytes : (s t : List ℕ) (b : Bool) → bytes_eq s t ≡ b → (is_yes (decided b) || false) ≡ true → s ≡ t
+by_bytes s t true e h = same_text s t e
+by_bytes s t false e h = absurd (no_answer h)
+
+same_bytes : (s t : List ℕ) → (is_yes (decided (bytes_eq s t)) || false) ≡ true → s ≡ t
+same_bytes s t h = by_bytes s t (bytes_eq s t) refl h
+
 equal_by : (t : Bool) (r : Range) (x d : Datum) → (r.lists || r.contexts) ≡ t → is_value x ≡ true → lies_in r d ≡ true → is_in x d ≡ true → lies_in (if t then anything else r) x ≡ true
 equal_by true r x d e v k i = any_in x v
 equal_by false r x (list ds) e v k i = let some : (r.lists || r.contexts) ≡ true = or_left r.lists r.contexts (list_in r ds k) in cc
@@ -189,7 +199,7 @@ equal_by false r null null e v k i = k
 equal_by false r (boolean true) (boolean true) e v k i = k
 equal_by false r (boolean false) (boolean false) e v k i = k
 equal_by false r (number x) (number y) e v k i = let P : ℤ → Type 0 = λ z. within r.numbers z ≡ true in subst P (sym (same_number x y i)) k
-equal_by false r (text s) (text t) e v k i = k
+equal_by false r (text s) (text t) e v k i = let P : List ℕ → Type 0 = λ u. is_among r.texts u ≡ true in subst P (sym (same_bytes s t i)) k
 equal_by false r x d e v k i = cc
 
 -- ---- answers
@@ -254,7 +264,7 @@ test_in : (t : Test) (x : Datum) → is_value x ≡ true → is_met (tested t x 
 test_in (Compares b e) x v h = answer_met (outcomes e []) (den e []) (stands_to b x) (sound e [] [] unnamed) h (λ d k l. compared_in b (alone e) x d v k l)
 test_in (Interval cl low high ch) x v h =
     let ends = both_met (answer (den low []) (stands_to (low_bound cl) x)) (answer (den high []) (stands_to (high_bound ch) x)) h in
-    both_in (standing_if (low_bound cl) (alone low).numbers) (standing_if (high_bound ch) (alone high).numbers) (alone low).texts (alone high).texts x
+    both_in (standing_if (low_bound cl) (alone low).numbers) (standing_if (high_bound ch) (alone high).numbers) (is_some_text (alone low).texts) (is_some_text (alone high).texts) x
     (answer_met (outcomes low []) (den low []) (stands_to (low_bound cl) x) (sound low [] [] unnamed) ends.0 (λ d k l. compared_in (low_bound cl) (alone low) x d v k l))
     (answer_met (outcomes high []) (den high []) (stands_to (high_bound ch) x) (sound high [] [] unnamed) ends.1 (λ d k l. compared_in (high_bound ch) (alone high) x d v k l))
 test_in (Equals e) x v h =

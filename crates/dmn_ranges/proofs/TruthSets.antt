@@ -8,8 +8,10 @@ use Rattle.feel_value.specs.declared.logic.Truth.{Truth}
 use Rattle.feel_value.specs.declared.logic.Truth.TheVariants.{Yes, No, Unknown}
 use Rattle.dmn_ranges.specs.Ranges.{lies_in, covers}
 use Rattle.dmn_ranges.specs.Steps.{truths, opposite, and_truths, or_truths, told}
+use Rattle.dmn_ranges.specs.Texts.{is_some_text}
 use Rattle.dmn_ranges.specs.declared.range.Range.{Range}
 use Rattle.dmn_ranges.specs.declared.truths.Truths.{Truths}
+use Rattle.dmn_ranges.proofs.FewTexts.{has_some}
 use Rattle.dmn_ranges.proofs.Joins.{or_left, or_right, and_both, some_within, list_in, context_in}
 
 -- whether it is one of these
@@ -46,9 +48,9 @@ truth_told r null h = or_left _ _ (or_left _ _ h)
 truth_told r (boolean true) h = h
 truth_told r (boolean false) h = h
 truth_told r (number z) h = or_left _ _ (or_right r.nulls _ (some_within r.numbers z h))
-truth_told r (text s) h = or_right _ _ (or_left _ _ h)
-truth_told r (list ds) h = or_right _ _ (or_right r.texts _ (or_left _ _ (list_in r ds h)))
-truth_told r (context es) h = or_right _ _ (or_right r.texts _ (or_right r.lists _ (context_in r es h)))
+truth_told r (text s) h = or_right _ _ (or_left _ _ (has_some r.texts s h))
+truth_told r (list ds) h = or_right _ _ (or_right (is_some_text r.texts) _ (or_left _ _ (list_in r ds h)))
+truth_told r (context es) h = or_right _ _ (or_right (is_some_text r.texts) _ (or_right r.lists _ (context_in r es h)))
 
 -- as values
 pub told_is : (a : Truths) (p : Truth) → tells a p ≡ true → covers (told a) (Is (truth_datum p)) ≡ true

@@ -21,6 +21,10 @@ pub fold_on : {A B : Type 0} (f : B → A → B) (whole acc next : B) (xs : List
 fold_on f whole acc next xs i a before e h q =
     before ∙ at_drop_more (λ ys. fold f acc ys) xs i a h ∙ ap (λ b. fold f (f acc b) (drop (i + 1) xs)) (sym e) ∙ ap (λ t. fold f t (drop (i + 1) xs)) (sym q)
 
+-- an element that a number names
+pub fold_at : {A B : Type 0} (f : B → A → B) (whole acc next : B) (xs : List A) (i : ℕ) (d : A) → whole ≡ fold f acc (drop i xs) → i < length xs → next ≡ f acc (get_or xs i d) → whole ≡ fold f next (drop (i + 1) xs)
+fold_at f whole acc next xs i d before h q = before ∙ at_drop_more (λ ys. fold f acc ys) xs i d h ∙ ap (λ t. fold f t (drop (i + 1) xs)) (sym q)
+
 pub fold_done : {A B : Type 0} (f : B → A → B) (whole acc : B) (xs : List A) (i : ℕ) → whole ≡ fold f acc (drop i xs) → length xs ≤ i → acc ≡ whole
 fold_done f whole acc xs i before h = sym (before ∙ ap (λ ys. fold f acc ys) (drop_all i xs h))
 

@@ -8,8 +8,10 @@ use Rattle.feel_text.specs.Tests.{Bound, Below, AtMost, Above, AtLeast, Test, Co
 use Rattle.dmn_ranges.specs.Numbers.{least_number, most_number}
 use Rattle.dmn_ranges.specs.Steps.{nothing, anything, joined, outcomes, is_not_null}
 use Rattle.dmn_ranges.specs.Sizes.{no_size, any_size}
+use Rattle.dmn_ranges.specs.Texts.{any_if, is_some_text}
 use Rattle.dmn_ranges.specs.declared.interval.Interval as interval
 use Rattle.dmn_ranges.specs.declared.range.Range.{Range}
+use Rattle.dmn_ranges.specs.declared.texts.Texts.TheVariants as few
 
 -- the numbers that stand so to some number of these
 abbrev pub standing : Bound → interval.Interval → Option interval.Interval
@@ -32,16 +34,16 @@ shared None y = None
 shared (Some x) None = None
 shared (Some x) (Some y) = between_ends (greatest x.low y.low) (least x.high y.high)
 
--- numbers, and texts where this is said
+-- numbers, and any text where this is said
 abbrev pub numbers_and_texts : Option interval.Interval → Bool → Range
-numbers_and_texts i t = record { nulls = false; trues = false; falses = false; numbers = i; texts = t; lists = false; contexts = false; size = no_size }
+numbers_and_texts i t = record { nulls = false; trues = false; falses = false; numbers = i; texts = any_if t; lists = false; contexts = false; size = no_size }
 
 -- the values that stand so to a value of the range: numbers to numbers, texts to texts
 abbrev pub compared_values : Bound → Range → Range
-compared_values b r = numbers_and_texts (standing_if b r.numbers) r.texts
+compared_values b r = numbers_and_texts (standing_if b r.numbers) (is_some_text r.texts)
 
 abbrev pub between_values : Bound → Range → Bound → Range → Range
-between_values b low c high = numbers_and_texts (shared (standing_if b low.numbers) (standing_if c high.numbers)) (low.texts && high.texts)
+between_values b low c high = numbers_and_texts (shared (standing_if b low.numbers) (standing_if c high.numbers)) (is_some_text low.texts && is_some_text high.texts)
 
 -- the values that are a value of the range, or a member of one
 abbrev pub equal_values : Range → Range
@@ -76,7 +78,7 @@ has_null ts = fold or_null false ts
 
 -- any value, but null where this is said
 abbrev pub anything_but : Bool → Range
-anything_but b = record { nulls = not b; trues = true; falses = true; numbers = anything.numbers; texts = true; lists = true; contexts = true; size = any_size }
+anything_but b = record { nulls = not b; trues = true; falses = true; numbers = anything.numbers; texts = few.Any; lists = true; contexts = true; size = any_size }
 
 abbrev pub domain_values : Tests → Range
 domain_values Any = anything

@@ -1,4 +1,5 @@
 pub mod Ranges
+pub mod Texts
 pub mod Numbers
 pub mod Sizes
 pub mod Steps

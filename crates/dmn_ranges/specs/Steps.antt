@@ -1,5 +1,5 @@
 -- What each form of an expression can give, from what its parts can give.
-use Rattle.std.specs.Prelude.{ℕ, ℤ, pos, int_le, ◌-ℤ◌, Bool, true, false, not, ◌&&◌, ◌||◌, Option, Some, None, is_some, if◌then◌else◌}
+use Rattle.std.specs.Prelude.{ℕ, ℤ, pos, int_le, ◌-ℤ◌, List, Bool, true, false, not, ◌&&◌, ◌||◌, Option, Some, None, is_some, if◌then◌else◌}
 use Rattle.feel_value.specs.Limits.{in_range, most_nodes}
 use Rattle.feel_text.specs.declared.expr.Operator.{Operator}
 use Rattle.feel_text.specs.declared.expr.Operator.TheVariants as operator
@@ -8,7 +8,7 @@ use Rattle.feel_text.specs.declared.expr.Function.TheVariants as function
 use Rattle.feel_text.specs.Expr as expr
 use Rattle.feel_text.specs.Expr.{Expr, Exprs, none}
 use Rattle.dmn_ranges.specs.Numbers.{least_number, most_number, sum, difference, product, absolute, remainder, has_divisor, hull, are_less, reach}
-use Rattle.dmn_ranges.specs.Ranges.{Scope, null_alone, range_named, within}
+use Rattle.dmn_ranges.specs.Ranges.{Scope, null_alone, no_texts, range_named, within}
 use Rattle.dmn_ranges.specs.declared.bounded.Bounded.{Bounded}
 use Rattle.dmn_ranges.specs.declared.interval.Interval.{Interval}
 use Rattle.dmn_ranges.specs.declared.outcomes.Outcomes.{Outcomes}
@@ -16,6 +16,8 @@ use Rattle.dmn_ranges.specs.declared.range.Range.{Range}
 use Rattle.dmn_ranges.specs.declared.parts.Parts.{Parts}
 use Rattle.dmn_ranges.specs.declared.size.Size.{Size}
 use Rattle.dmn_ranges.specs.declared.truths.Truths.{Truths}
+use Rattle.dmn_ranges.specs.declared.texts.Texts.TheVariants as few
+use Rattle.dmn_ranges.specs.Texts.{one_text, is_some_text, joined_texts, meet, differ}
 use Rattle.dmn_ranges.specs.Sizes.{no_size, any_size, more, larger, beside, fits, around}
 
 -- ---- ranges
@@ -25,30 +27,30 @@ everything = record { low = least_number; high = most_number }
 
 -- numbers, and null where this is said
 abbrev pub numbers_or_null : Bool → Option Interval → Range
-numbers_or_null n i = record { nulls = n; trues = false; falses = false; numbers = i; texts = false; lists = false; contexts = false; size = no_size }
+numbers_or_null n i = record { nulls = n; trues = false; falses = false; numbers = i; texts = no_texts; lists = false; contexts = false; size = no_size }
 
 abbrev pub nothing : Range
 nothing = numbers_or_null false None
 
 -- any value, but lists and contexts of this size alone
 abbrev pub any_of_size : Size → Range
-any_of_size s = record { nulls = true; trues = true; falses = true; numbers = Some everything; texts = true; lists = true; contexts = true; size = s }
+any_of_size s = record { nulls = true; trues = true; falses = true; numbers = Some everything; texts = few.Any; lists = true; contexts = true; size = s }
 
 abbrev pub anything : Range
 anything = any_of_size any_size
 
 abbrev pub truth_values : Bool → Bool → Bool → Range
-truth_values n t f = record { nulls = n; trues = t; falses = f; numbers = None; texts = false; lists = false; contexts = false; size = no_size }
+truth_values n t f = record { nulls = n; trues = t; falses = f; numbers = None; texts = no_texts; lists = false; contexts = false; size = no_size }
 
-abbrev pub texts_alone : Range
-texts_alone = record { nulls = false; trues = false; falses = false; numbers = None; texts = true; lists = false; contexts = false; size = no_size }
+abbrev pub text_alone : List ℕ → Range
+text_alone s = record { nulls = false; trues = false; falses = false; numbers = None; texts = one_text s; lists = false; contexts = false; size = no_size }
 
 -- lists of this size, contexts of this size
 abbrev pub lists_of : Size → Range
-lists_of s = record { nulls = false; trues = false; falses = false; numbers = None; texts = false; lists = true; contexts = false; size = s }
+lists_of s = record { nulls = false; trues = false; falses = false; numbers = None; texts = no_texts; lists = true; contexts = false; size = s }
 
 abbrev pub contexts_of : Size → Range
-contexts_of s = record { nulls = false; trues = false; falses = false; numbers = None; texts = false; lists = false; contexts = true; size = s }
+contexts_of s = record { nulls = false; trues = false; falses = false; numbers = None; texts = no_texts; lists = false; contexts = true; size = s }
 
 abbrev pub joined : Range → Range → Range
 joined a b = record {
@@ -56,7 +58,7 @@ joined a b = record {
   trues = a.trues || b.trues;
   falses = a.falses || b.falses;
   numbers = hull a.numbers b.numbers;
-  texts = a.texts || b.texts;
+  texts = joined_texts a.texts b.texts;
   lists = a.lists || b.lists;
   contexts = a.contexts || b.contexts;
   size = larger a.size b.size;
@@ -64,7 +66,7 @@ joined a b = record {
 
 -- some value is no number
 abbrev pub is_other : Range → Bool
-is_other r = (r.nulls || (r.trues || r.falses)) || (r.texts || (r.lists || r.contexts))
+is_other r = (r.nulls || (r.trues || r.falses)) || (is_some_text r.texts || (r.lists || r.contexts))
 
 -- some value is no text
 abbrev pub is_other_than_text : Range → Bool
@@ -72,7 +74,7 @@ is_other_than_text r = (r.nulls || (r.trues || r.falses)) || (is_some r.numbers 
 
 -- some value is no list
 abbrev pub is_other_than_list : Range → Bool
-is_other_than_list r = (r.nulls || (r.trues || r.falses)) || (is_some r.numbers || (r.texts || r.contexts))
+is_other_than_list r = (r.nulls || (r.trues || r.falses)) || (is_some r.numbers || (is_some_text r.texts || r.contexts))
 
 -- each number is one of the range of numbers
 abbrev pub are_numbers : Option Interval → Bool
@@ -151,7 +153,7 @@ remainders a b = numbers_given ((is_other a || is_other b) || within b.numbers (
 -- ---- truth values
 
 abbrev pub truths : Range → Truths
-truths r = record { yes = r.trues; no = r.falses; unknown = (r.nulls || is_some r.numbers) || (r.texts || (r.lists || r.contexts)) }
+truths r = record { yes = r.trues; no = r.falses; unknown = (r.nulls || is_some r.numbers) || (is_some_text r.texts || (r.lists || r.contexts)) }
 
 abbrev pub opposite : Truths → Truths
 opposite a = record { yes = a.no; no = a.yes; unknown = a.unknown }
@@ -169,15 +171,15 @@ told a = given (truth_values a.unknown a.yes a.no)
 
 abbrev pub less_truths : Range → Range → Truths
 less_truths a b = record {
-  yes = are_less a.numbers b.numbers || (a.texts && b.texts);
-  no = reach a.numbers b.numbers || (a.texts && b.texts);
+  yes = are_less a.numbers b.numbers || (is_some_text a.texts && is_some_text b.texts);
+  no = reach a.numbers b.numbers || (is_some_text a.texts && is_some_text b.texts);
   unknown = (is_other a || is_other b) && (is_other_than_text a || is_other_than_text b);
 }
 
 -- Each value is null, or of a kind for which this is said.
 abbrev pub has_only : Range → Bool → Bool → Bool → Bool
 has_only a truths numbers texts =
-    ((truths || not (a.trues || a.falses)) && (numbers || not (is_some a.numbers))) && ((texts || not a.texts) && not (a.lists || a.contexts))
+    ((truths || not (a.trues || a.falses)) && (numbers || not (is_some a.numbers))) && ((texts || not (is_some_text a.texts)) && not (a.lists || a.contexts))
 
 -- of each value of the first and each of the second it is known whether they are equal
 abbrev pub is_alike : Range → Range → Bool
@@ -188,19 +190,19 @@ is_alike a b =
 
 -- some value is not null
 abbrev pub is_not_null : Range → Bool
-is_not_null r = (r.trues || r.falses) || (is_some r.numbers || (r.texts || (r.lists || r.contexts)))
+is_not_null r = (r.trues || r.falses) || (is_some r.numbers || (is_some_text r.texts || (r.lists || r.contexts)))
 
 -- some value of the first is equal to one of the second
 abbrev pub can_equal : Range → Range → Bool
 can_equal a b =
     ((a.nulls && b.nulls) || ((a.trues && b.trues) || (a.falses && b.falses)))
-    || ((reach a.numbers b.numbers && reach b.numbers a.numbers) || ((a.texts && b.texts) || ((a.lists && b.lists) || (a.contexts && b.contexts))))
+    || ((reach a.numbers b.numbers && reach b.numbers a.numbers) || (meet a.texts b.texts || ((a.lists && b.lists) || (a.contexts && b.contexts))))
 
 -- some value of the first is not equal to one of the second
 abbrev pub can_differ : Range → Range → Bool
 can_differ a b =
     (((a.nulls && is_not_null b) || (b.nulls && is_not_null a)) || ((a.trues && b.falses) || (a.falses && b.trues)))
-    || ((are_less a.numbers b.numbers || are_less b.numbers a.numbers) || ((a.texts && b.texts) || ((a.lists && b.lists) || (a.contexts && b.contexts))))
+    || ((are_less a.numbers b.numbers || are_less b.numbers a.numbers) || (differ a.texts b.texts || ((a.lists && b.lists) || (a.contexts && b.contexts))))
 
 abbrev pub equal_truths : Range → Range → Truths
 equal_truths a b = record { yes = can_equal a b; no = can_differ a b; unknown = not (is_alike a b) }
@@ -288,7 +290,7 @@ abbrev mutual
   outcomes expr.Null xs = given null_alone
   outcomes (expr.Boolean b) xs = given (truth_values false b (not b))
   outcomes (expr.Number n) xs = natural n
-  outcomes (expr.Text bytes) xs = given texts_alone
+  outcomes (expr.Text bytes) xs = given (text_alone bytes)
   outcomes (expr.Name name) xs = given (range_named xs name)
   outcomes (expr.Group e) xs = outcomes e xs
   outcomes (expr.Members es) xs = list_of (members_parts no_parts es xs)

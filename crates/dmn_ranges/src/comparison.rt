@@ -13,7 +13,7 @@ use feel_text::Operator;
 pub(crate) fn less_truths(a: Range, b: Range) -> Truths
     ensures { result ≡ less_truths_of a b }
 {
-    let texts = both(a.texts, b.texts);
+    let texts = both(a.texts.is_some(), b.texts.is_some());
     Truths {
         yes: either(are_less(a.numbers, b.numbers), texts),
         no: either(reach(a.numbers, b.numbers), texts),
@@ -33,7 +33,10 @@ fn has_only(a: Range, truths: bool, numbers: bool, texts: bool) -> bool
             either(truths, !either(a.trues, a.falses)),
             either(numbers, !a.numbers.is_some()),
         ),
-        both(either(texts, !a.texts), !either(a.lists, a.contexts)),
+        both(
+            either(texts, !a.texts.is_some()),
+            !either(a.lists, a.contexts),
+        ),
     )
 }
 
@@ -73,19 +76,16 @@ pub(crate) fn is_not_null(range: Range) -> bool
         either(range.trues, range.falses),
         either(
             range.numbers.is_some(),
-            either(range.texts, either(range.lists, range.contexts)),
+            either(range.texts.is_some(), either(range.lists, range.contexts)),
         ),
     )
 }
 
-// Whether both have texts, lists or contexts, of which nothing more is known.
+// Whether both have lists or contexts, of whose parts nothing is known.
 fn share_a_kind(a: Range, b: Range) -> bool
-    ensures { result ≡ ((a.texts && b.texts) || ((a.lists && b.lists) || (a.contexts && b.contexts))) }
+    ensures { result ≡ ((a.lists && b.lists) || (a.contexts && b.contexts)) }
 {
-    either(
-        both(a.texts, b.texts),
-        either(both(a.lists, b.lists), both(a.contexts, b.contexts)),
-    )
+    either(both(a.lists, b.lists), both(a.contexts, b.contexts))
 }
 
 // Whether some value of the first is equal to one of the second.
@@ -98,7 +98,7 @@ fn can_equal(a: Range, b: Range) -> bool
             both(a.nulls, b.nulls),
             either(both(a.trues, b.trues), both(a.falses, b.falses)),
         ),
-        either(meet, share_a_kind(a, b)),
+        either(meet, either(a.texts.meet(&b.texts), share_a_kind(a, b))),
     )
 }
 
@@ -115,7 +115,7 @@ fn can_differ(a: Range, b: Range) -> bool
             either(both(a.nulls, is_not_null(b)), both(b.nulls, is_not_null(a))),
             either(both(a.trues, b.falses), both(a.falses, b.trues)),
         ),
-        either(part, share_a_kind(a, b)),
+        either(part, either(a.texts.differ(&b.texts), share_a_kind(a, b))),
     )
 }
 

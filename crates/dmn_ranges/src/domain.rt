@@ -13,6 +13,7 @@ use crate::expression::outcomes;
 use crate::interval::{Interval, higher, lower};
 use crate::range::{Range, both, either, every_number, joined};
 use crate::size::Size;
+use crate::texts::Texts;
 use feel_text::{Bound, Test, Tests, TestsTree, Tree, high_end, low_end};
 
 /// The values of a domain that unary tests describe.
@@ -81,7 +82,7 @@ fn shared(x: Option<Interval>, y: Option<Interval>) -> Option<Interval>
     }
 }
 
-// Numbers, and texts where this is said.
+// Numbers, and any text where this is said.
 fn numbers_and_texts(numbers: Option<Interval>, texts: bool) -> Range
     ensures { result ≡ numbers_and_texts_of numbers texts }
 {
@@ -90,7 +91,7 @@ fn numbers_and_texts(numbers: Option<Interval>, texts: bool) -> Range
         trues: false,
         falses: false,
         numbers,
-        texts,
+        texts: Texts::any_if(texts),
         lists: false,
         contexts: false,
         size: Size::none(),
@@ -101,7 +102,7 @@ fn numbers_and_texts(numbers: Option<Interval>, texts: bool) -> Range
 fn compared_values(bound: Bound, range: Range) -> Range
     ensures { result ≡ compared_values_of (bound_view bound) range }
 {
-    numbers_and_texts(standing_if(bound, range.numbers), range.texts)
+    numbers_and_texts(standing_if(bound, range.numbers), range.texts.is_some())
 }
 
 // The values that stand so to a value of either range.
@@ -112,7 +113,7 @@ fn between_values(above: Bound, low: Range, below: Bound, high: Range) -> Range
         standing_if(above, low.numbers),
         standing_if(below, high.numbers),
     );
-    numbers_and_texts(numbers, both(low.texts, high.texts))
+    numbers_and_texts(numbers, both(low.texts.is_some(), high.texts.is_some()))
 }
 
 // The values that are a value of the range, or a member of one.
@@ -202,7 +203,7 @@ fn anything_but(null: bool) -> Range
         trues: true,
         falses: true,
         numbers: every_number(),
-        texts: true,
+        texts: Texts::Any,
         lists: true,
         contexts: true,
         size: Size::any(),

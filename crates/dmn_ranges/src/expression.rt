@@ -14,6 +14,7 @@ use crate::outcomes::{Outcomes, either_of, when};
 use crate::parts::Parts;
 use crate::range::{NamedRange, Range, either, named};
 use crate::size::Size;
+use crate::texts::Texts;
 use crate::truths::{Truths, truths_in};
 use feel_text::{Constant, Expr, Tree};
 use feel_value::Value;
@@ -47,22 +48,13 @@ fn constant(constant: &Constant) -> Outcomes
             trues: *holds,
             falses: !*holds,
             numbers: None,
-            texts: false,
+            texts: Texts::none(),
             lists: false,
             contexts: false,
             size: Size::none(),
         }),
         Value::Number(n) => Outcomes::given(point(*n)),
-        Value::Text(_) => Outcomes::given(Range {
-            nulls: false,
-            trues: false,
-            falses: false,
-            numbers: None,
-            texts: true,
-            lists: false,
-            contexts: false,
-            size: Size::none(),
-        }),
+        Value::Text(text) => Outcomes::given(Range::text(text.as_str())),
         Value::Null | Value::List(_) | Value::Context(_) => Outcomes::given(Range::null()),
     }
 }

@@ -27,6 +27,7 @@ mod table_tests;
 mod tally;
 #[cfg(test)]
 mod tests;
+mod texts;
 mod truths;
 
 pub use boxed::range_of_logic;
@@ -40,3 +41,4 @@ pub use service::{
 };
 pub use size::Size;
 pub use table::range_of_table;
+pub use texts::{Texts, Word};

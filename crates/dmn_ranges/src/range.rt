@@ -2,10 +2,11 @@
 ghost use Rattle.std.specs.Prelude.{◌≡◌, ◌&&◌, ◌||◌, Some, None, bytes_eq, if◌then◌else◌};
 ghost use Rattle.std.specs.Arc.{arc_str_bytes};
 ghost use Rattle.dmn_ranges.specs.Ranges.{range_named, null_alone, scope};
-ghost use Rattle.dmn_ranges.specs.Steps.{nothing as no_value, anything, everything, joined as joined_of, is_other as is_other_of, any_of_size as any_of_size_of, lists_of as lists_of_size, contexts_of as contexts_of_size, is_other_than_text as is_other_than_text_of, is_other_than_list as is_other_than_list_of, are_numbers as are_numbers_of, size_of as size_of_range, numbers_or_null as numbers_or_null_of};
+ghost use Rattle.dmn_ranges.specs.Steps.{nothing as no_value, anything, everything, joined as joined_of, is_other as is_other_of, any_of_size as any_of_size_of, lists_of as lists_of_size, contexts_of as contexts_of_size, is_other_than_text as is_other_than_text_of, is_other_than_list as is_other_than_list_of, are_numbers as are_numbers_of, size_of as size_of_range, text_alone, numbers_or_null as numbers_or_null_of};
 
 use crate::interval::{Interval, hull};
 use crate::size::Size;
+use crate::texts::Texts;
 use std::sync::ArcStr;
 
 /// A set of values: null, the truth values, the numbers of an interval, texts, lists and contexts.
@@ -15,7 +16,7 @@ pub struct Range {
     pub trues: bool,
     pub falses: bool,
     pub numbers: Option<Interval>,
-    pub texts: bool,
+    pub texts: Texts,
     pub lists: bool,
     pub contexts: bool,
     /// How large the lists and the contexts are at most.
@@ -72,7 +73,7 @@ impl Range {
             trues: true,
             falses: true,
             numbers: every_number(),
-            texts: true,
+            texts: Texts::Any,
             lists: true,
             contexts: true,
             size,
@@ -88,7 +89,7 @@ impl Range {
             trues: false,
             falses: false,
             numbers: None,
-            texts: false,
+            texts: Texts::none(),
             lists: true,
             contexts: false,
             size,
@@ -104,7 +105,7 @@ impl Range {
             trues: false,
             falses: false,
             numbers: None,
-            texts: false,
+            texts: Texts::none(),
             lists: false,
             contexts: true,
             size,
@@ -120,7 +121,23 @@ impl Range {
             trues: false,
             falses: false,
             numbers,
-            texts: false,
+            texts: Texts::none(),
+            lists: false,
+            contexts: false,
+            size: Size::none(),
+        }
+    }
+
+    /// One text.
+    pub(crate) fn text(text: &str) -> Range
+        ensures { result ≡ text_alone text.now }
+    {
+        Range {
+            nulls: false,
+            trues: false,
+            falses: false,
+            numbers: None,
+            texts: Texts::one(text),
             lists: false,
             contexts: false,
             size: Size::none(),
@@ -133,7 +150,7 @@ impl Range {
     {
         either(
             either(self.nulls, either(self.trues, self.falses)),
-            either(self.texts, either(self.lists, self.contexts)),
+            either(self.texts.is_some(), either(self.lists, self.contexts)),
         )
     }
 
@@ -153,7 +170,10 @@ impl Range {
     {
         either(
             either(self.nulls, either(self.trues, self.falses)),
-            either(self.numbers.is_some(), either(self.texts, self.contexts)),
+            either(
+                self.numbers.is_some(),
+                either(self.texts.is_some(), self.contexts),
+            ),
         )
     }
 
@@ -203,7 +223,7 @@ pub(crate) fn joined(a: Range, b: Range) -> Range
         trues: either(a.trues, b.trues),
         falses: either(a.falses, b.falses),
         numbers: hull(a.numbers, b.numbers),
-        texts: either(a.texts, b.texts),
+        texts: a.texts.joined(b.texts),
         lists: either(a.lists, b.lists),
         contexts: either(a.contexts, b.contexts),
         size: a.size.larger(b.size),

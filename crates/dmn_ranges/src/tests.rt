@@ -1,5 +1,6 @@
 //! What expressions can give, worked out by hand.
-use crate::{Interval, NamedRange, Outcomes, Range, Size, range_of_expression};
+use crate::range::joined;
+use crate::{Interval, NamedRange, Outcomes, Range, Size, Texts, range_of_expression};
 use feel_text::read_expr;
 use std::alloc::{AllocError, Global};
 use std::process::Abort;
@@ -21,11 +22,19 @@ fn others(trues: bool, falses: bool, texts: bool, lists: bool, contexts: bool) -
         trues,
         falses,
         numbers: None,
-        texts,
+        texts: Texts::any_if(texts),
         lists,
         contexts,
         size,
     }
+}
+
+// One of three texts.
+fn grades() -> Range {
+    joined(
+        joined(Range::text("low"), Range::text("middle")),
+        Range::text("high"),
+    )
 }
 
 /// The names that the rows have. `missing` is none of them, and `none` has no value.
@@ -38,6 +47,7 @@ pub(crate) fn names(alloc: Global) -> Result<Vec<NamedRange>, AllocError> {
         ("full", numbers(-i64::MAX, i64::MAX)),
         ("maybe", maybe),
         ("word", others(false, false, true, false, false)),
+        ("grade", grades()),
         ("yesno", others(true, true, false, false, false)),
         ("sure", others(true, false, false, false, false)),
         ("items", others(false, false, false, true, false)),
@@ -51,6 +61,22 @@ pub(crate) fn names(alloc: Global) -> Result<Vec<NamedRange>, AllocError> {
         names.push(NamedRange { name, range })?;
     }
     Ok(names)
+}
+
+/// Adds the texts of a set.
+fn add_texts(texts: &Texts, text: &mut String) -> Result<(), AllocError> {
+    let Texts::Few(words) = texts else {
+        return text.push_str("text ");
+    };
+    for word in words {
+        let Some(word) = word else {
+            continue;
+        };
+        text.push_str("\"")?;
+        text.push_str(word.as_str().unwrap_or("?"))?;
+        text.push_str("\" ")?;
+    }
+    Ok(())
 }
 
 /// What can be given, in words.
@@ -71,8 +97,8 @@ pub(crate) fn words(alloc: Global, told: Outcomes) -> Result<String, AllocError>
         let interval = format!(in alloc; "{low}..{high} ")?;
         text.push_str(interval.as_str())?;
     }
+    add_texts(&range.texts, &mut text)?;
     for (is_told, word) in [
-        (range.texts, "text "),
         (range.lists, "list "),
         (range.contexts, "context "),
         (told.limit, "limit "),
@@ -102,7 +128,15 @@ const LITERALS: &[(&str, &str)] = &[
     ("7", "7..7 "),
     ("-7", "-7..-7 "),
     ("-0", "0..0 "),
-    ("\"a\"", "text "),
+    ("\"a\"", "\"a\" "),
+    ("\"\"", "\"\" "),
+    ("word", "text "),
+    ("grade", "\"low\" \"middle\" \"high\" "),
+    (
+        "\"a text with just 32 bytes: 45678\"",
+        "\"a text with just 32 bytes: 45678\" ",
+    ),
+    ("\"a text with 33 bytes, one more: .\"", "text "),
     ("missing", "null "),
     ("(small)", "1..10 "),
     ("[1, 2]", "list "),
@@ -249,6 +283,22 @@ const REMAINDERS: &[(&str, &str)] = &[
     ("modulo(small, word)", "null "),
 ];
 
+/// What is added to the three grades, and what can be given then: eight texts at most are told.
+const MANY: &[(&str, &str)] = &[
+    (
+        "if yesno then grade else if yesno then \"4\" else if yesno then \"5\" else if yesno then \"6\" else if yesno then \"7\" else \"8\"",
+        "\"low\" \"middle\" \"high\" \"4\" \"5\" \"6\" \"7\" \"8\" ",
+    ),
+    (
+        "if yesno then grade else if yesno then \"4\" else if yesno then \"5\" else if yesno then \"6\" else if yesno then \"7\" else if yesno then \"8\" else \"low\"",
+        "\"low\" \"middle\" \"high\" \"4\" \"5\" \"6\" \"7\" \"8\" ",
+    ),
+    (
+        "if yesno then grade else if yesno then \"4\" else if yesno then \"5\" else if yesno then \"6\" else if yesno then \"7\" else if yesno then \"8\" else \"9\"",
+        "text ",
+    ),
+];
+
 const CALLS: &[(&str, &str)] = &[
     ("abs(wide)", "0..10 "),
     ("abs(-5)", "5..5 "),
@@ -293,6 +343,15 @@ const COMPARISONS: &[(&str, &str)] = &[
     ("maybe = 5", "true false "),
     ("any = null", "true false "),
     ("word = \"a\"", "true false "),
+    ("grade = \"low\"", "true false "),
+    ("grade = \"none\"", "false "),
+    ("grade != \"none\"", "true "),
+    ("grade = grade", "true false "),
+    ("\"low\" = \"low\"", "true "),
+    ("\"low\" != \"low\"", "false "),
+    ("\"low\" = \"lo\"", "false "),
+    ("grade < \"m\"", "true false "),
+    ("grade = null", "false "),
     ("yesno = true", "true false "),
     ("small = 20", "false "),
     ("small != 20", "true "),
@@ -333,7 +392,15 @@ const LOGIC: &[(&str, &str)] = &[
     ("if 1 then 2 else 3", "3..3 "),
     ("if word = 1 then 1 else 2", "2..2 "),
     ("if maybe < 9 then 1 else 2", "1..2 "),
-    ("if maybe > 1 then \"a\" else null", "null text "),
+    ("if maybe > 1 then \"a\" else null", "null \"a\" "),
+    ("if yesno then \"a\" else \"b\"", "\"a\" \"b\" "),
+    (
+        "if yesno then \"low\" else grade",
+        "\"low\" \"middle\" \"high\" ",
+    ),
+    ("if yesno then word else \"a\"", "text "),
+    ("if yesno then \"a\" else word", "text "),
+    ("if grade = \"none\" then \"a\" else \"b\"", "\"b\" "),
     ("if small < 20 then small else full", "1..10 "),
     ("if sure then 1 else full + 1", "1..1 "),
     ("if full + 1 > 0 then 1 else 2", "1..2 limit "),
@@ -362,6 +429,11 @@ fn remainders(rt: HostRuntime) -> Result<(), Fail> {
 #[test]
 fn arithmetic(rt: HostRuntime) -> Result<(), Fail> {
     hold(&rt, rt.alloc(), ARITHMETIC)
+}
+
+#[test]
+fn many_texts(rt: HostRuntime) -> Result<(), Fail> {
+    hold(&rt, rt.alloc(), MANY)
 }
 
 #[test]

@@ -5,6 +5,7 @@ ghost use Rattle.dmn_ranges.specs.Steps.{truths as truths_of, opposite as opposi
 use crate::outcomes::Outcomes;
 use crate::range::{Range, both, either};
 use crate::size::Size;
+use crate::texts::Texts;
 
 /// A set of truth values.
 #[derive(Clone, Copy)]
@@ -23,7 +24,7 @@ pub(crate) fn truths_in(range: Range) -> Truths
         no: range.falses,
         unknown: either(
             either(range.nulls, range.numbers.is_some()),
-            either(range.texts, either(range.lists, range.contexts)),
+            either(range.texts.is_some(), either(range.lists, range.contexts)),
         ),
     }
 }
@@ -73,7 +74,7 @@ pub(crate) fn told(a: Truths) -> Outcomes
         trues: a.yes,
         falses: a.no,
         numbers: None,
-        texts: false,
+        texts: Texts::none(),
         lists: false,
         contexts: false,
         size: Size::none(),

@@ -9,7 +9,7 @@ import (
 	"testing"
 )
 
-// pathVariable is engine.PathVariable. The tests of package engine use this package, so it imports nothing of that.
+// pathVariable is engine.PathVariable. The tests of package engine use this package, so it can't import that.
 const pathVariable = "DESK_ENGINE"
 
 // Main runs the tests of a package with the engine of dist/, unless the environment names another, and ends the process.

@@ -11,10 +11,10 @@ import (
 	"time"
 )
 
-// variable has the path of the engine where the test's own program runs in its place.
+// variable has the path of the engine if the test's program runs in its place.
 const variable = "DESK_TEST_WAITING"
 
-// Waiting gives the path of a program that is the engine at path, but waits at each request with an input Until.
+// Waiting returns the path of a program that is the engine at path, but waits at each request with an input Until.
 func Waiting(t *testing.T, path string) string {
 	t.Helper()
 	path, err := filepath.Abs(path)
@@ -29,16 +29,16 @@ func Waiting(t *testing.T, path string) string {
 	return own
 }
 
-// Until is an input at which the engine waits until the file is there.
+// Until returns an input at which the engine waits until the file exists.
 func Until(file string) string { return fmt.Sprintf(`"until":"%s"`, file) }
 
 // input finds what Until writes.
 var input = regexp.MustCompile(`"until":"([^"]*)"`)
 
-// maximumLine is more than the longest line that the engine takes.
+// maximumLine is longer than any line that the engine takes.
 const maximumLine = 2 << 20
 
-// run runs the engine with the words of this program, hands on what comes for it, and gives its status.
+// run runs the engine with this program's arguments, passes its input on, and returns its status.
 func run(path string) int {
 	command := exec.Command(path, os.Args[1:]...)
 	command.Stdout, command.Stderr = os.Stdout, os.Stderr

@@ -2,10 +2,10 @@ package strict
 
 import "strings"
 
-// A Due is what could be where reading stops. Operators, which may follow each value, are left out.
+// A Due is what could be where reading stops. Operators, which may follow any value, are omitted.
 type Due string
 
-// What may be due.
+// The values of Due.
 const (
 	DueValue        Due = "a value"
 	DueTest         Due = "a test"
@@ -26,11 +26,11 @@ const (
 	DueEscape       Due = `an escape of \", \\, \n, \r and \t`
 	DueSmallNumber  Due = "a number of at most 9223372036854775807"
 	DueShortName    Due = "a name of at most 64 bytes"
-	// DueShallow is told of a text that is too deep as a whole.
+	// DueShallow is for a text that is too deep as a whole.
 	DueShallow Due = "at most 64 levels"
 )
 
-// listed are these with commas and an "or" between.
+// listed joins these with commas and an "or".
 func listed(due []Due) string {
 	var text strings.Builder
 	for at, one := range due {

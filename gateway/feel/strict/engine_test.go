@@ -13,10 +13,10 @@ import (
 	"time"
 )
 
-// texts is how many random texts a run holds against the engine.
+// texts is how many random texts a run compares with the engine.
 const texts = 100_000
 
-// atOnce is how many texts the engine is given at once: it tells as many places.
+// atOnce is how many texts the engine gets at once, as it reports that many places.
 const atOnce = 100
 
 var pieces = []string{
@@ -26,7 +26,7 @@ var pieces = []string{
 	"else 1", "[1..5]", "(1..", "a.b", "between 1 and", "modulo(a,", "-1", ">= 5", ", ", "",
 }
 
-// randomText is a text of pieces that come as they would, or as they never do.
+// randomText returns a text of pieces in a plausible or impossible order.
 func randomText(random *rand.Rand) string {
 	var text strings.Builder
 	for count := random.Intn(12); count >= 0; count-- {
@@ -38,12 +38,12 @@ func randomText(random *rand.Rand) string {
 	return text.String()
 }
 
-// lawful is a text by the grammar, with a byte or a piece changed now and then.
-func lawful(random *rand.Rand, depth int) string {
+// validText returns a text by the grammar, with a byte or piece changed now and then.
+func validText(random *rand.Rand, depth int) string {
 	if depth == 0 {
 		return pieces[random.Intn(15)]
 	}
-	part := func() string { return lawful(random, depth-1-random.Intn(depth)) }
+	part := func() string { return validText(random, depth-1-random.Intn(depth)) }
 	operators := []string{"+", "-", "*", "=", "!=", "<", "<=", ">", ">=", "and", "or"}
 	switch random.Intn(12) {
 	case 0:
@@ -68,10 +68,10 @@ func lawful(random *rand.Rand, depth int) string {
 	return part() + " " + operators[random.Intn(len(operators))] + " " + part()
 }
 
-func lawfulTests(random *rand.Rand) string {
+func validTests(random *rand.Rand) string {
 	var tests []string
 	for count := random.Intn(3); count >= 0; count-- {
-		one, other := lawful(random, random.Intn(3)), lawful(random, random.Intn(3))
+		one, other := validText(random, random.Intn(3)), validText(random, random.Intn(3))
 		switch random.Intn(4) {
 		case 0:
 			tests = append(tests, "<= "+one)
@@ -112,14 +112,14 @@ func drawn(random *rand.Rand, kind Kind) string {
 	case random.Intn(40) == 0:
 		return "1" + strings.Repeat(" + 1", 60+random.Intn(8))
 	case kind == UnaryTests:
-		return changed(random, lawfulTests(random))
+		return changed(random, validTests(random))
 	case kind == Literal:
 		return changed(random, []string{"- 7", `"x"`, "true", "12", "-3"}[random.Intn(5)])
 	}
-	return changed(random, lawful(random, random.Intn(6)))
+	return changed(random, validText(random, random.Intn(6)))
 }
 
-// modelOf is a model with these texts, each of this kind.
+// modelOf returns a model with these texts, all of this kind.
 func modelOf(kind Kind, texts []string) []byte {
 	type any = interface{}
 	var logic any = map[string]any{"list": texts}
@@ -145,7 +145,7 @@ func modelOf(kind Kind, texts []string) []byte {
 	return model
 }
 
-// indexOf is which of the texts a pointer leads to.
+// indexOf returns the index of the text that a pointer leads to.
 func indexOf(kind Kind, pointer string) int {
 	parts := strings.Split(pointer, "/")
 	at := len(parts) - 1
@@ -159,7 +159,7 @@ func indexOf(kind Kind, pointer string) int {
 	return index
 }
 
-// asked gives which of the texts have no reading for the engine.
+// asked returns which of the texts have no reading in the engine.
 func asked(engine string, kind Kind, texts []string) map[int]bool {
 	run := exec.Command(engine, "check", "--json")
 	run.Stdin = bytes.NewReader(modelOf(kind, texts))
@@ -187,7 +187,7 @@ func isRead(kind Kind, text string) bool {
 	return ok
 }
 
-// TestEngineReadsTheSame holds random texts against the engine: whether each has a reading.
+// TestEngineReadsTheSame compares with the engine whether random texts have a reading.
 func TestEngineReadsTheSame(t *testing.T) {
 	engine := os.Getenv("DESK_ENGINE")
 	if engine == "" {
@@ -221,8 +221,8 @@ func TestEngineReadsTheSame(t *testing.T) {
 	t.Logf("%d texts, of which %d have a reading", count, valid)
 }
 
-// TestStops holds texts without a reading against rows: where each stops, and what could be there. A reader of its own made the rows,
-// that of the engine up to version 0.19.
+// TestStops compares stops with rows: where each text stops, and what could be there. The rows are from an independent reader,
+// the engine's up to version 0.19.
 func TestStops(t *testing.T) {
 	rows, err := os.Open("testdata/stops.jsonl")
 	if err != nil {

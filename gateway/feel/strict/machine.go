@@ -5,7 +5,7 @@ type around uint8
 
 const (
 	aroundWhole around = iota
-	// aroundBound is the sum behind a sign of order, aroundLow and aroundHigh the ends of an interval.
+	// aroundBound is the sum after a comparison sign, aroundLow and aroundHigh are the ends of an interval.
 	aroundBound
 	aroundLow
 	aroundHigh
@@ -20,7 +20,7 @@ const (
 
 func (a around) isSum() bool { return a == aroundBound || a == aroundLow || a == aroundHigh }
 
-// An awaited is what a machine goes on with.
+// An awaited is what a machine expects next.
 type awaited uint8
 
 const (
@@ -30,21 +30,21 @@ const (
 	awaitsName
 	awaitsOpen
 	awaitsOperator
-	// awaitsCall is behind the name of a function of one argument, awaitsModulo behind modulo: both may be plain names.
+	// awaitsCall is after the name of a function of one argument, awaitsModulo after modulo: both may be plain names.
 	awaitsCall
 	awaitsModulo
 	awaitsNothing
 )
 
-// A frame is a form that is open.
+// A frame is an open form.
 type frame struct {
 	around     around
 	isCompared bool
-	// isBetween says that the "and" of a between is still to come.
+	// isBetween means that the "and" of a between is still to come.
 	isBetween bool
 }
 
-// A machine goes over the tokens of an expression and knows at each what may come next. It knows nothing of depth.
+// A machine reads the tokens of an expression, and knows at each what may follow. It ignores depth.
 type machine struct {
 	top   frame
 	below []frame
@@ -81,7 +81,7 @@ func (m *machine) then(next awaited) bool {
 	return true
 }
 
-// takes goes over a token; false says that it can't come here.
+// takes reads a token, or returns false if it can't be here.
 func (m *machine) takes(sort Sort) bool {
 	switch m.next {
 	case awaitsWhole:
@@ -165,7 +165,7 @@ func (m *machine) compare(isBetween bool) bool {
 	return m.then(awaitsValue)
 }
 
-// joins goes over an "and" or an "or" between conditions.
+// joins reads an "and" or "or" between conditions.
 func (m *machine) joins() bool {
 	if m.top.isBetween || m.top.around.isSum() {
 		return false
@@ -174,7 +174,7 @@ func (m *machine) joins() bool {
 	return m.then(awaitsValue)
 }
 
-// closes goes over a token that ends a part of what is open.
+// closes reads a token that ends a part of an open form.
 func (m *machine) closes(sort Sort) bool {
 	if m.top.isBetween {
 		return false
@@ -201,7 +201,7 @@ func (m *machine) closes(sort Sort) bool {
 	return false
 }
 
-// around is what is open, but for else branches, which have no end of their own.
+// around returns the innermost open form, except else branches, which have no end of their own.
 func (m *machine) around() around {
 	if m.top.around != aroundElse {
 		return m.top.around
@@ -214,7 +214,7 @@ func (m *machine) around() around {
 	return aroundWhole
 }
 
-// isWhole tells whether what was gone over may end here.
+// isWhole reports whether the expression may end here.
 func (m *machine) isWhole() bool {
 	switch m.next {
 	case awaitsNothing:
@@ -228,7 +228,7 @@ func (m *machine) isWhole() bool {
 
 func (m *machine) wantsValue() bool { return m.next <= awaitsFirstMember }
 
-// due is what may come next, operators left out.
+// due returns what may follow, without operators.
 func (m *machine) due() []Due {
 	switch m.next {
 	case awaitsWhole, awaitsValue:
@@ -245,10 +245,10 @@ func (m *machine) due() []Due {
 	if m.top.isBetween {
 		return []Due{DueAnd}
 	}
-	return dueBehindValue[m.around()]
+	return dueAfterValue[m.around()]
 }
 
-var dueBehindValue = map[around][]Due{
+var dueAfterValue = map[around][]Due{
 	aroundGroup: {DueCloseParen}, aroundFirst: {DueComma}, aroundList: {DueComma, DueCloseBracket},
 	aroundCondition: {DueThen}, aroundThen: {DueElse}, aroundLow: {DueDotDot}, aroundHigh: {DueIntervalEnd},
 }

@@ -6,21 +6,21 @@ import (
 	"gateway/feel"
 )
 
-// A reader reads the tokens of one text. Each of its methods begins at the token at hand. The limit is how many levels the
-// form may have; a form that has no reading within it gives a nil node, and the reader is of no use then.
+// A reader reads the tokens of one text. Each of its methods begins at the current token. The limit is how many levels the form
+// may have. A form without a reading within it gives a nil node, and makes the reader unusable.
 type reader struct {
 	text string
-	// token is the one at hand, and behind the one before it.
-	token, behind Token
-	// names and numbers have room for more of them: most texts with many nodes have many of these.
+	// token is the current token, previous the one before.
+	token, previous Token
+	// names and numbers are spare nodes: texts with many nodes usually have many of these.
 	names   []feel.Name
 	numbers []feel.Number
 }
 
-// mostRoom is for how many nodes room is made at once.
+// mostRoom limits the nodes allocated at once.
 const mostRoom = 256
 
-// name is a new node.
+// name returns a new node.
 func (r *reader) name(span feel.Span, name string) feel.Node {
 	if len(r.names) == cap(r.names) {
 		r.names = make([]feel.Name, 0, room(cap(r.names)))
@@ -29,7 +29,7 @@ func (r *reader) name(span feel.Span, name string) feel.Node {
 	return &r.names[len(r.names)-1]
 }
 
-// number is a new node.
+// number returns a new node.
 func (r *reader) number(span feel.Span, text string) feel.Node {
 	if len(r.numbers) == cap(r.numbers) {
 		r.numbers = make([]feel.Number, 0, room(cap(r.numbers)))
@@ -38,7 +38,7 @@ func (r *reader) number(span feel.Span, text string) feel.Node {
 	return &r.numbers[len(r.numbers)-1]
 }
 
-// room is for how many nodes room is made after it was made for so many.
+// room returns how many nodes to allocate after last.
 func room(last int) int {
 	if last >= mostRoom {
 		return mostRoom
@@ -46,7 +46,7 @@ func room(last int) int {
 	return 1 + 2*last
 }
 
-// sorts is a set of sorts.
+// A sorts is a set of sorts.
 type sorts uint32
 
 func setOf(all ...Sort) (set sorts) {
@@ -70,7 +70,7 @@ var (
 
 func (s sorts) has(sort Sort) bool { return s>>sort&1 > 0 }
 
-// ReadExpression reads a text as an expression. False says that it is none.
+// ReadExpression reads an expression. It returns false if the text is not one.
 func ReadExpression(text string) (feel.Node, bool) {
 	if node := oneToken(text); node != nil {
 		return node, true
@@ -81,7 +81,7 @@ func ReadExpression(text string) (feel.Node, bool) {
 	return node, node != nil && r.isAtEnd()
 }
 
-// oneToken reads a text that is a constant or a name alone; nil of another one.
+// oneToken reads a text that is only a constant or name; nil for others.
 func oneToken(text string) feel.Node {
 	token := tokenAfter(text, Token{Sort: end})
 	switch {
@@ -95,7 +95,7 @@ func oneToken(text string) feel.Node {
 	return nil
 }
 
-// ReadLiteral reads a text as a literal: a constant, or a number behind a minus.
+// ReadLiteral reads a literal: a constant, or a number after a minus.
 func ReadLiteral(text string) (Value, bool) {
 	first := tokenAfter(text, Token{Sort: end})
 	if !ofConstants.has(first.Sort) && first.Sort != Minus {
@@ -113,28 +113,28 @@ func ReadLiteral(text string) (Value, bool) {
 	return nil, false
 }
 
-// readers are those that are read to their end. The room that they have left is used again.
+// readers are finished readers. Their spare nodes are reused.
 var readers = sync.Pool{New: func() any { return &reader{} }}
 
 func newReader(text string) *reader {
 	r := readers.Get().(*reader)
-	r.text, r.behind = text, Token{Sort: end}
-	r.token = tokenAfter(text, r.behind)
+	r.text, r.previous = text, Token{Sort: end}
+	r.token = tokenAfter(text, r.previous)
 	return r
 }
 
-// end gives the reader back.
+// end returns the reader to the pool.
 func (r *reader) end() {
 	r.text = ""
 	readers.Put(r)
 }
 
-// goOn goes over the token at hand.
-func (r *reader) goOn() { r.behind, r.token = r.token, tokenAfter(r.text, r.token) }
+// goOn moves to the next token.
+func (r *reader) goOn() { r.previous, r.token = r.token, tokenAfter(r.text, r.token) }
 
 func (r *reader) isAtEnd() bool { return r.token.Sort == end }
 
-// takes goes over a token of this sort.
+// takes reads a token of this sort.
 func (r *reader) takes(sort Sort) bool {
 	if r.token.Sort == sort {
 		r.goOn()
@@ -143,16 +143,16 @@ func (r *reader) takes(sort Sort) bool {
 	return false
 }
 
-// spelled is the token at hand as it is written.
+// spelled returns the current token as written.
 func (r *reader) spelled() string { return r.text[r.token.Start:r.token.End] }
 
-// from is the span of the text from a byte up to what was read.
-func (r *reader) from(start int) feel.Span { return feel.Span{Start: start, End: r.behind.End} }
+// from returns the span of the text from a byte to what was read.
+func (r *reader) from(start int) feel.Span { return feel.Span{Start: start, End: r.previous.End} }
 
-// A form reads a form whose parts have at most inner levels, and gives its own.
+// A form reads a form whose parts have at most inner levels, and returns its depth.
 type form func(r *reader, inner int) (node feel.Node, depth int)
 
-// read reads a form of at most limit levels.
+// read reads a form with at most limit levels.
 func (r *reader) read(limit int, of form) (feel.Node, int) {
 	if limit == 0 {
 		return nil, 0
@@ -160,7 +160,7 @@ func (r *reader) read(limit int, of form) (feel.Node, int) {
 	return of(r, limit-1)
 }
 
-// deeper is one level more than the deepest of some parts.
+// deeper returns one more than the deepest of the parts.
 func deeper(one, two, three int) int {
 	if two > one {
 		one = two
@@ -207,7 +207,7 @@ func (r *reader) product(inner int) (feel.Node, int) {
 	return r.chain(inner, (*reader).negation, ofStar)
 }
 
-// chain reads operands with operators of these sorts between, grouped to the left: each step is one level more.
+// chain reads operands with operators of these sorts between, grouped to the left: each step is one more level.
 func (r *reader) chain(inner int, operand form, operators sorts) (feel.Node, int) {
 	start := r.token.Start
 	first, depth := operand(r, inner)
@@ -315,7 +315,7 @@ func (r *reader) primary(inner int) (feel.Node, int) {
 	return nil, 0
 }
 
-// constantOf is a token that is a constant.
+// constantOf returns the node of a constant token.
 func constantOf(text string, token Token) feel.Node {
 	span, spelled := feel.Span{Start: token.Start, End: token.End}, text[token.Start:token.End]
 	switch {
@@ -329,7 +329,7 @@ func constantOf(text string, token Token) feel.Node {
 	return &feel.Boolean{Span: span, Value: spelled == "true"}
 }
 
-// named reads a name, or the call of a function where a parenthesis follows.
+// named reads a name, or a function call if a parenthesis follows.
 func (r *reader) named(inner int) (feel.Node, int) {
 	start, name, sort := r.token.Start, r.spelled(), r.token.Sort
 	r.goOn()
@@ -345,7 +345,7 @@ func (r *reader) named(inner int) (feel.Node, int) {
 	return nil, 0
 }
 
-// call reads the arguments of a function, in their parentheses.
+// call reads a function's arguments in parentheses.
 func (r *reader) call(start, inner int, name string, arguments int) (feel.Node, int) {
 	call := &feel.Call{Function: &feel.Name{Name: name}}
 	if !r.takes(OpenParen) {
@@ -393,7 +393,7 @@ func (r *reader) list(inner int) (feel.Node, int) {
 	return list, deeper(deepest, 0, 0)
 }
 
-// appended adds a node to others, for which twice the room is made where they have none left.
+// appended appends a node, and doubles the capacity if it is used up.
 func appended(nodes []feel.Node, node feel.Node) []feel.Node {
 	if len(nodes) == cap(nodes) {
 		nodes = append(make([]feel.Node, 0, 1+2*len(nodes)), nodes...)

@@ -2,19 +2,19 @@ package strict
 
 // A Stop is where the reading of a text stops that has no reading of its kind.
 type Stop struct {
-	// At is the byte at which it stops: what comes before could go on otherwise. It is 0 where the text is too deep.
+	// At is the byte at which it stops: the text before could be continued in another way. It is 0 if the text is too deep.
 	At int
 	// Due is what could be there.
 	Due []Due
 }
 
-// IsTooDeep tells whether the text is too deep as a whole.
+// IsTooDeep reports whether the text is too deep as a whole.
 func (s Stop) IsTooDeep() bool { return len(s.Due) > 0 && s.Due[0] == DueShallow }
 
-// DueText is what could be there, in words.
+// DueText words what could be there.
 func (s Stop) DueText() string { return listed(s.Due) }
 
-// Character is the number of the character at which the reading stops; the first is 1.
+// Character returns the number of the character at which reading stops, from 1.
 func (s Stop) Character(text string) int {
 	count := 1
 	for at := 0; at < s.At && at < len(text); at++ {
@@ -25,7 +25,7 @@ func (s Stop) Character(text string) int {
 	return count
 }
 
-// Found is what is there: a word or a character. It is empty at the end.
+// Found returns what is there: a word or a character, or "" at the end.
 func (s Stop) Found(text string) string {
 	rest := text[s.At:]
 	if length := runLength(rest, IsWordByte); length > 0 || rest == "" {
@@ -34,11 +34,11 @@ func (s Stop) Found(text string) string {
 	return rest[:1+runLength(rest[1:], isInner)]
 }
 
-// A halt is where the tokens of a text stop to be a form.
+// A halt is where the tokens of a text stop being a form.
 type halt struct {
-	// taken is how many tokens were gone over.
+	// taken is how many tokens were read.
 	taken int
-	// isWhole says that the form may end behind them, wantsValue and wantsName what may come next.
+	// isWhole means that the form may end there, wantsValue and wantsName say what may follow.
 	isWhole, wantsValue, wantsName bool
 	due                            []Due
 }
@@ -47,12 +47,12 @@ func haltBefore(taken int, due ...Due) *halt {
 	return &halt{taken: taken, wantsValue: has(due, DueValue), due: due}
 }
 
-func (h halt) behind(more int) halt {
+func (h halt) after(more int) halt {
 	h.taken += more
 	return h
 }
 
-// or is the same where this is due too.
+// or returns the same halt with more that is due.
 func (h halt) or(due ...Due) halt {
 	all := append([]Due(nil), h.due...)
 	for _, one := range due {
@@ -64,7 +64,7 @@ func (h halt) or(due ...Due) halt {
 	return h
 }
 
-// farther is the one of two that comes later, and what is due at both where they are one place.
+// farther returns the later of two halts, and what is due at both if they are at one place.
 func (h halt) farther(other halt) halt {
 	switch {
 	case h.taken > other.taken:
@@ -75,7 +75,7 @@ func (h halt) farther(other halt) halt {
 	return h.or(other.due...)
 }
 
-// haltOf is where the longest form at the start ends that is read within this.
+// haltOf returns where the longest form at the start ends that can be within of.
 func haltOf(of around, tokens []Token) halt {
 	m, taken := newMachine(of), 0
 	for taken < len(tokens) && m.takes(tokens[taken].Sort) {
@@ -84,13 +84,13 @@ func haltOf(of around, tokens []Token) halt {
 	return halt{taken, m.isWhole(), m.wantsValue(), m.next == awaitsName, m.due()}
 }
 
-// SumEnd is how many tokens at the start are a sum, as behind a sign of order, and whether they are a whole one.
+// SumEnd returns how many tokens at the start are a sum, as after a comparison sign, and whether they are a whole one.
 func SumEnd(tokens []Token) (taken int, isWhole bool) {
 	h := haltOf(aroundBound, tokens)
 	return h.taken, h.isWhole
 }
 
-// StopOf is where the reading of a text stops that has no reading of its kind.
+// StopOf returns where the reading of a text stops that has no reading of its kind.
 func StopOf(kind Kind, text string) Stop {
 	tokens := Tokens(text)
 	var h *halt
@@ -111,7 +111,7 @@ func StopOf(kind Kind, text string) Stop {
 	return h.within(tokens[h.taken])
 }
 
-// within is the place of a halt in the token that it comes before.
+// within returns the place of a halt in the token after it.
 func (h halt) within(token Token) Stop {
 	switch {
 	case token.Sort == OpenText && h.wantsValue:
@@ -126,7 +126,7 @@ func (h halt) within(token Token) Stop {
 	return Stop{token.Start, h.due}
 }
 
-// The halts below are nil where no token stops the reading: the text is too deep then.
+// The halts below are nil if no token stops the reading: the text is too deep then.
 
 func expressionHalt(tokens []Token) *halt {
 	h := haltOf(aroundWhole, tokens)
@@ -172,10 +172,11 @@ func testsHalt(tokens []Token) *halt {
 	return &h
 }
 
-// listHalt is where a list of tests from this token on stops. It ends with the text, and where it closes with a parenthesis.
+// listHalt returns where a list of tests stops that begins at this token. It ends with the text, or with a parenthesis if it
+// closes.
 func listHalt(tokens []Token, begin int, closes bool) *halt {
 	for {
-		h := testHalt(tokens[begin:]).behind(begin)
+		h := testHalt(tokens[begin:]).after(begin)
 		if !h.isWhole || h.taken >= len(tokens) || tokens[h.taken].Sort != Comma {
 			return endHalt(tokens, h, closes)
 		}
@@ -183,7 +184,7 @@ func listHalt(tokens []Token, begin int, closes bool) *halt {
 	}
 }
 
-// endHalt is where a list stops behind its last test.
+// endHalt returns where a list stops after its last test.
 func endHalt(tokens []Token, last halt, closes bool) *halt {
 	end := DueEnd
 	if closes {
@@ -209,7 +210,7 @@ func testHalt(tokens []Token) halt {
 		return *haltBefore(0, DueTest)
 	}
 	if tokens[0].Sort == Order {
-		return haltOf(aroundBound, tokens[1:]).behind(1)
+		return haltOf(aroundBound, tokens[1:]).after(1)
 	}
 	h := plainHalt(tokens)
 	if h.taken == 0 {
@@ -218,13 +219,13 @@ func testHalt(tokens []Token) halt {
 	return h
 }
 
-// plainHalt is where a test stops that begins with no sign of order: it is an expression or an interval.
+// plainHalt returns where a test without a comparison sign stops: an expression or an interval.
 func plainHalt(tokens []Token) halt {
 	h := haltOf(aroundWhole, tokens)
 	if first := tokens[0].Sort; h.isWhole || first != OpenParen && first != OpenBracket && first != CloseBracket {
 		return h
 	}
-	other := haltOf(aroundLow, tokens[1:]).behind(1)
+	other := haltOf(aroundLow, tokens[1:]).after(1)
 	if other.isWhole {
 		return other
 	}

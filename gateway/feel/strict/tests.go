@@ -2,7 +2,7 @@ package strict
 
 import "gateway/feel"
 
-// ReadTests reads a text as an input entry. A text that is not( tests ) as a whole is that alone.
+// ReadTests reads an input entry. A text that as a whole reads as not( tests ) is read only so.
 func ReadTests(text string) (Tests, bool) {
 	if node := oneToken(text); node != nil {
 		return Tests{List: []feel.Node{node}}, true
@@ -27,7 +27,7 @@ func ReadTests(text string) (Tests, bool) {
 	return Tests{List: list}, list != nil && r.isAtEnd()
 }
 
-// tests reads tests with commas between; nil says that one has no reading.
+// tests reads tests with commas between; nil if one has no reading.
 func (r *reader) tests() []feel.Node {
 	var list []feel.Node
 	for {
@@ -60,7 +60,7 @@ func (r *reader) test() feel.Node {
 	return r.interval()
 }
 
-// interval reads an interval from its first sign on.
+// interval reads an interval from its first sign.
 func (r *reader) interval() feel.Node {
 	start := r.token.Start
 	if !ofLowEnds.has(r.token.Sort) {

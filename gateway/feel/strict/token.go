@@ -2,10 +2,10 @@ package strict
 
 import "strconv"
 
-// A Sort is what a token is.
+// A Sort is the sort of a token.
 type Sort uint8
 
-// The sorts of tokens. The wrong ones are in no text that has a reading.
+// The sorts of tokens. The wrong ones are in no text with a reading.
 const (
 	Number Sort = iota
 	Name
@@ -36,17 +36,17 @@ const (
 	Comma
 	Dot
 	DotDot
-	// LargeNumber is a number past the limit.
+	// LargeNumber is a number over the limit.
 	LargeNumber
 	// LongName is a word of more than 64 bytes.
 	LongName
-	// OpenText is a text whose second quote is missing.
+	// OpenText is a text without its second quote.
 	OpenText
-	// WrongEscape is a text with an escape that is none. The token ends before its backslash.
+	// WrongEscape is a text with an invalid escape. The token ends before its backslash.
 	WrongEscape
-	// Other is what is no token.
+	// Other is anything else.
 	Other
-	// end is behind the last token.
+	// end follows the last token.
 	end
 )
 
@@ -56,15 +56,15 @@ type Token struct {
 	Start, End int
 }
 
-// mostName is how many bytes a name has at most.
+// mostName limits the bytes of a name.
 const mostName = 64
 
 func isBlank(c byte) bool { return c == ' ' || c == '\t' || c == '\r' || c == '\n' }
 
-// IsDigit tells whether a byte is a digit.
+// IsDigit reports whether a byte is a digit.
 func IsDigit(c byte) bool { return '0' <= c && c <= '9' }
 
-// wordBytes are the bytes of numbers, names and key words.
+// wordBytes are the bytes of numbers, names and keywords.
 var wordBytes = func() (bytes [256]bool) {
 	for c := range bytes {
 		bytes[c] = IsDigit(byte(c)) || 'A' <= c && c <= 'Z' || 'a' <= c && c <= 'z' || c == '_'
@@ -72,10 +72,10 @@ var wordBytes = func() (bytes [256]bool) {
 	return bytes
 }()
 
-// IsWordByte tells whether a byte is one of a number, a name or a key word.
+// IsWordByte reports whether a byte may be in a number, a name or a keyword.
 func IsWordByte(c byte) bool { return wordBytes[c] }
 
-// IsName tells whether a text is a name: a word of at most 64 bytes that begins with no digit and is no key word.
+// IsName reports whether a text is a name: a word of at most 64 bytes that doesn't begin with a digit and isn't a keyword.
 func IsName(text string) bool {
 	if text == "" || len(text) > mostName || IsDigit(text[0]) || runLength(text, IsWordByte) < len(text) {
 		return false
@@ -84,7 +84,7 @@ func IsName(text string) bool {
 	return sort == Name || sort == Function || sort == Modulo
 }
 
-// Tokens cuts a text into tokens, wrong ones among them.
+// Tokens splits a text into tokens, including wrong ones.
 func Tokens(text string) (found []Token) {
 	for token := tokenAfter(text, Token{Sort: end}); token.Sort != end; token = tokenAfter(text, token) {
 		found = append(found, token)
@@ -92,15 +92,14 @@ func Tokens(text string) (found []Token) {
 	return found
 }
 
-// EachToken hands each of the tokens of a text to take.
+// EachToken calls take with each token of a text.
 func EachToken(text string, take func(token Token)) {
 	for token := tokenAfter(text, Token{Sort: end}); token.Sort != end; token = tokenAfter(text, token) {
 		take(token)
 	}
 }
 
-// tokenAfter is the token behind another one. Behind the last it is one of the sort end, and behind one of this sort that ends at
-// 0 it is the first.
+// tokenAfter returns the next token. After the last its sort is end; a token of this sort that ends at 0 is before the first.
 func tokenAfter(text string, before Token) Token {
 	at := before.End
 	for at < len(text) && isBlank(text[at]) {
@@ -116,7 +115,7 @@ func tokenAfter(text string, before Token) Token {
 	return token
 }
 
-// next is the token that begins at a byte.
+// next returns the token that begins at a byte.
 func next(text string, at int) Token {
 	switch c := text[at]; {
 	case IsDigit(c):
@@ -139,7 +138,7 @@ func next(text string, at int) Token {
 	return Token{sort, at, at + length}
 }
 
-// runLength is how many bytes at the start of a text belong.
+// runLength returns how many bytes at the start of a text belong.
 func runLength(text string, belongs func(byte) bool) int {
 	for at := 0; at < len(text); at++ {
 		if !belongs(text[at]) {
@@ -191,7 +190,7 @@ func wordSort(word string) Sort {
 	return Name
 }
 
-// quoted is the text whose first quote came before, and how many bytes it has behind that.
+// quoted returns the sort and the length of a text after its first quote.
 func quoted(rest string) (Sort, int) {
 	for at := 0; at < len(rest); at++ {
 		switch rest[at] {
@@ -207,7 +206,7 @@ func quoted(rest string) (Sort, int) {
 	return OpenText, len(rest)
 }
 
-// escaped is the byte that an escape stands for; 0 for one that is none.
+// escaped returns the byte of an escape, or 0 if it is invalid.
 func escaped(c byte) byte {
 	switch c {
 	case '"', '\\':
@@ -235,7 +234,7 @@ var singles = func() (sorts [256]Sort) {
 	return sorts
 }()
 
-// pairOf is the sort of a sign of two characters; Other where they are none.
+// pairOf returns the sort of a two-character sign, or Other.
 func pairOf(first, second byte) Sort {
 	switch {
 	case first == '.' && second == '.':
@@ -248,7 +247,7 @@ func pairOf(first, second byte) Sort {
 	return Other
 }
 
-// sign is the longest sign at the start of a text. What is none is a whole character.
+// sign returns the longest sign at the start of a text, or a whole character.
 func sign(rest string) (Sort, int) {
 	if len(rest) > 1 {
 		if sort := pairOf(rest[0], rest[1]); sort != Other {
@@ -262,5 +261,5 @@ func sign(rest string) (Sort, int) {
 	return singles[rest[0]], length
 }
 
-// isInner tells whether a byte goes on with a character.
+// isInner reports whether a byte continues a character.
 func isInner(c byte) bool { return 0x80 <= c && c < 0xC0 }

@@ -13,20 +13,20 @@ type Group struct {
 	Inside feel.Node
 }
 
-// Tests are those of an input entry, each a *feel.Unary with the sign of an order, a *feel.Range, or an expression that the
-// input is to equal.
+// Tests are the tests of an input entry. Each is a *feel.Unary with a comparison sign, a *feel.Range, or an expression that the
+// input must equal.
 type Tests struct {
-	// Any says that the entry is "-", which each value meets.
+	// Any means that the entry is "-", which every value meets.
 	Any bool
-	// Negated says that none of the tests may hold.
+	// Negated means that none of the tests may hold.
 	Negated bool
 	List    []feel.Node
 }
 
-// A Value is one of a literal: nil, a bool, an int64 or a string.
+// A Value is the value of a literal: nil, a bool, an int64 or a string.
 type Value any
 
-// ConstantOf is the value of a node that is a constant of one token; false of another one.
+// ConstantOf returns the value of a node that is a constant token; false for others.
 func ConstantOf(node feel.Node) (Value, bool) {
 	switch node := node.(type) {
 	case *feel.Number:
@@ -42,7 +42,7 @@ func ConstantOf(node feel.Node) (Value, bool) {
 	return nil, false
 }
 
-// valueOf is the value of a token that is a constant; false of a number that is none of them.
+// valueOf returns the value of a constant token; false for a number out of range.
 func valueOf(text string, token Token) (Value, bool) {
 	switch spelled := text[token.Start:token.End]; {
 	case token.Sort == Number:
@@ -57,7 +57,7 @@ func valueOf(text string, token Token) (Value, bool) {
 	}
 }
 
-// unquoted is what a text between quotes stands for.
+// unquoted returns the value of a text in quotes.
 func unquoted(spelled string) string {
 	inner := spelled[1 : len(spelled)-1]
 	if strings.IndexByte(inner, '\\') < 0 {

@@ -1,4 +1,4 @@
-// Package answer reads what the engine answers, and writes the lines of the answers' stream.
+// Package answer reads the engine's answers, and writes the lines of the answer stream.
 package answer
 
 import (
@@ -11,25 +11,24 @@ import (
 	"gateway/rabbit/line"
 )
 
-// A Reason is why a line is refused in the engine's stead.
+// A Reason is why a line is refused without the engine.
 type Reason string
 
 // The reasons.
 const (
-	Deadline Reason = "deadline" // its evaluation took longer than it may
-	Died     Reason = "died"     // the engine died at it, twice
-	TooLong  Reason = "answer"   // its answer is longer than it may be
+	Deadline Reason = "deadline" // its evaluation took too long
+	Died     Reason = "died"     // the engine died at it twice
+	TooLong  Reason = "answer"   // its answer is too long
 	Lost     Reason = "lost"     // the broker has lost the model of its batch
 )
 
-// An Answer is one line of the engine, taken apart. Text is the line but for its number, which stands between Head and
-// Tail.
+// An Answer is one parsed line of the engine. Head and Tail are the text around its number.
 type Answer struct {
 	Client  int // or line.NoClient
 	Numbers bool
 	Ticket  bool  // whether the number is a ticket; otherwise it is the line's
 	Number  int64 // the ticket, or the line's number in the engine's input
-	InForce bool  // whether a model was put in force
+	InForce bool  // whether a model was loaded
 	head    []byte
 	tail    []byte
 }
@@ -42,7 +41,7 @@ const (
 
 var errAnswer = errors.New("no answer of the engine")
 
-// Read reads a line of the engine, without its line end.
+// Read reads a line of the engine, without its newline.
 func Read(text []byte) (Answer, error) {
 	a := Answer{Client: line.NoClient}
 	if bytes.HasPrefix(text, []byte(clientKey)) && len(text) > len(clientKey)+line.ClientNameBytes {
@@ -52,11 +51,11 @@ func Read(text []byte) (Answer, error) {
 		}
 		a.Client = client
 	}
-	// The ticket is the last member, so the last text that spells its key is the key.
+	// The ticket is the last member, so the last text spelled like its key is the key.
 	at, key := bytes.LastIndex(text, []byte(ticketKey)), ticketKey
 	a.Ticket = at >= 0 && isTicket(text[at+len(ticketKey):])
 	if !a.Ticket {
-		// No answer without a ticket has a value in it, so this text is the key.
+		// An answer without a ticket has no values before it, so this text is the key.
 		at, key = bytes.Index(text, []byte(lineKey)), lineKey
 	}
 	if at < 0 {
@@ -81,7 +80,7 @@ func isTicket(rest []byte) bool {
 	return len(digits) > 0 && len(rest) == len(digits)+1 && bytes.Trim(digits, "0123456789") == nil
 }
 
-// With is the answer with another number.
+// With returns the answer with another number.
 func (a Answer) With(number int64) []byte {
 	text := make([]byte, 0, len(a.head)+20+len(a.tail))
 	text = append(text, a.head...)
@@ -89,8 +88,7 @@ func (a Answer) With(number int64) []byte {
 	return append(text, a.tail...)
 }
 
-// Refusal is the answer to a line that is refused in the engine's stead. Where the engine gave it a ticket, the answer
-// has it too.
+// Refusal returns the answer to a line that is refused without the engine. It has the line's ticket if the engine gave it one.
 func Refusal(client int, number int64, reason Reason, ticket *int64) []byte {
 	text := []byte{'{'}
 	if client != line.NoClient {
@@ -103,7 +101,7 @@ func Refusal(client int, number int64, reason Reason, ticket *int64) []byte {
 	return append(text, '}')
 }
 
-// Append appends a line of the answers' stream, with its line end. Key and id are nil of a model.
+// Append appends a line of the answer stream, with its newline. Key and id are nil for a model.
 func Append(body []byte, place ledger.Place, key, id, text []byte) []byte {
 	body = append(body, `{"offset":`...)
 	body = strconv.AppendInt(body, place.Offset, 10)
@@ -117,14 +115,14 @@ func Append(body []byte, place ledger.Place, key, id, text []byte) []byte {
 	return append(body, '}', '\n')
 }
 
-// AppendLost appends a line of the answers' stream that stands for requests that are lost, with its line end.
+// AppendLost appends a line of the answer stream that replaces lost requests, with its newline.
 func AppendLost(body []byte, gap ledger.Gap) []byte {
 	body = strconv.AppendInt(append(body, lostKey...), gap.From, 10)
 	body = strconv.AppendInt(append(body, lostUpto...), gap.To, 10)
 	return append(body, lostEnd+"\n"...)
 }
 
-// Unreceived is the line that stands for answers that were cut before they were received: those after one place and up to
+// Unreceived returns the line that replaces answers that were cut before they were received: those after one place, up to
 // another.
 func Unreceived(after, upto ledger.Place) []byte {
 	from := after.Offset
@@ -134,7 +132,7 @@ func Unreceived(after, upto ledger.Place) []byte {
 	return []byte(fmt.Sprintf(`%s%d%s%d,"answers":true%s`, lostKey, from, lostUpto, upto.Offset, lostEnd))
 }
 
-// LostMember is the member by which a line is known that stands for what is lost.
+// LostMember is the member that marks a line about something lost.
 const LostMember = "lost"
 
 // The texts of such a line.
@@ -144,23 +142,23 @@ const (
 	lostEnd  = `}}`
 )
 
-// A Record is what a line of the answers' stream says of its place and of the lines behind it.
+// A Record is what a line of the answer stream says about its place and the lines after it.
 type Record struct {
 	Place   ledger.Place
 	Client  int // or line.NoClient
 	Outcome ledger.Outcome
-	Lost    bool // whether it stands for requests that are lost
+	Lost    bool // whether it replaces lost requests
 }
 
-// ReadRecord reads a line of the answers' stream, without its line end.
+// ReadRecord reads a line of the answer stream, without its newline.
 func ReadRecord(text []byte) (Record, error) {
 	var r Record
 	if bytes.HasPrefix(text, []byte(lostKey)) {
 		return readLost(text)
 	}
-	rest, err := numberBehind(text, `{"offset":`, &r.Place.Offset)
+	rest, err := numberAfter(text, `{"offset":`, &r.Place.Offset)
 	if err == nil {
-		rest, err = numberBehind(rest, `,"place":`, &r.Place.Index)
+		rest, err = numberAfter(rest, `,"place":`, &r.Place.Index)
 	}
 	if err != nil {
 		return r, err
@@ -172,11 +170,11 @@ func ReadRecord(text []byte) (Record, error) {
 		return r, nil
 	}
 	r.Outcome.HasTicket = true
-	_, err = numberBehind(rest[at:], ticketKey, &r.Outcome.Ticket)
+	_, err = numberAfter(rest[at:], ticketKey, &r.Outcome.Ticket)
 	return r, err
 }
 
-// clientOf finds the client in what follows a record's place: the key, the id and the answer.
+// clientOf finds the client after a record's place, in the key, the id and the answer.
 func clientOf(rest []byte) int {
 	const key, id, client = `,"key":`, `,"id":`, `,"answer":{"client":"`
 	at := 0
@@ -199,9 +197,9 @@ func clientOf(rest []byte) int {
 
 func readLost(text []byte) (Record, error) {
 	var gap ledger.Gap
-	rest, err := numberBehind(text, lostKey, &gap.From)
+	rest, err := numberAfter(text, lostKey, &gap.From)
 	if err == nil {
-		rest, err = numberBehind(rest, lostUpto, &gap.To)
+		rest, err = numberAfter(rest, lostUpto, &gap.To)
 	}
 	if err == nil && string(rest) != lostEnd {
 		err = errRecord
@@ -211,7 +209,7 @@ func readLost(text []byte) (Record, error) {
 
 var errRecord = errors.New("no line of an answers' stream")
 
-func numberBehind(text []byte, key string, number *int64) ([]byte, error) {
+func numberAfter(text []byte, key string, number *int64) ([]byte, error) {
 	if !bytes.HasPrefix(text, []byte(key)) {
 		return nil, errRecord
 	}

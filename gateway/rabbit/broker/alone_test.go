@@ -13,17 +13,17 @@ import (
 	"gateway/rabbit/bus"
 )
 
-// aloneVariable says how many messages each partition is sent, and of how many bytes, as 1000,143360.
+// aloneVariable gives the number of messages for each partition, and their bytes, such as 1000,143360.
 const aloneVariable = "DESK_TEST_ALONE"
 
-// aloneOpen is how many messages of a partition are without a confirm.
+// aloneOpen is how many messages of a partition are unconfirmed.
 const aloneOpen = 16
 
-// aloneKind is the streams that are made for this, and deleted.
+// aloneKind is the kind of the streams made for this test, and deleted after.
 const aloneKind bus.Kind = "alone"
 
-// TestBrokersAlone measures what the brokers do by themselves: one connection publishes to a stream for each partition,
-// another reads them, and neither does anything else. ops/rabbitmq/test/figures runs it.
+// TestBrokersAlone measures only the brokers: one connection publishes to a stream for each partition, another reads them.
+// ops/rabbitmq/test/figures runs it.
 func TestBrokersAlone(t *testing.T) {
 	words := strings.Split(os.Getenv(aloneVariable), ",")
 	if len(words) != 2 {
@@ -46,7 +46,7 @@ func TestBrokersAlone(t *testing.T) {
 	writing, reading := connected(t, ctx, b), connected(t, ctx, b)
 	removed := declareAlone(t, writing, settings)
 	defer removed()
-	time.Sleep(5 * time.Second) // the brokers make the copies of a stream once it is declared
+	time.Sleep(5 * time.Second) // the brokers copy a stream once it is declared
 	read := make(chan error, settings.Partitions)
 	for partition := 0; partition < settings.Partitions; partition++ {
 		go func(queue string) { read <- readAlone(reading, queue, messages) }(settings.Queue(aloneKind, partition))
@@ -73,7 +73,7 @@ func connected(t *testing.T, ctx context.Context, b Broker) *Link {
 	return link
 }
 
-// declareAlone makes the streams, and tells how to delete them.
+// declareAlone makes the streams, and returns what deletes them.
 func declareAlone(t *testing.T, link *Link, settings bus.Settings) (remove func()) {
 	t.Helper()
 	channel, err := link.channel()

@@ -11,21 +11,20 @@ import (
 	"gateway/rabbit/logs"
 )
 
-// SegmentBytes is how long a file of a stream gets. A broker that becomes the leader of a stream reads the newest file
-// message by message before it does anything else, which takes long with the 500 MB that are RabbitMQ's own.
+// SegmentBytes is the size of a stream's files. A broker that becomes a stream's leader first reads the newest file message by
+// message, which takes long with RabbitMQ's default of 500 MB.
 const SegmentBytes = 8 << 20
 
-// progressPartitions is how many partitions are declared from one report to the next.
+// progressPartitions is how many partitions are declared between two reports.
 const progressPartitions = 64
 
-// Declare makes the exchanges, and the queues of all partitions, where they aren't there. Streams that are there with files of
-// another length are left as they are.
+// Declare makes the missing exchanges and the queues of all partitions. Existing streams with files of another size are kept.
 func (b Broker) Declare(ctx context.Context, settings bus.Settings, log *logs.Log) error {
 	d := declaring{broker: b, settings: settings, log: log, segment: SegmentBytes}
 	return bus.Again(ctx, b, log, d.run)
 }
 
-// Leave leads no more lines to the logs of these partitions, which are closed. So a line that is sent there all the same comes back.
+// Leave unbinds the logs of these closed partitions, so that lines sent to them come back.
 func (b Broker) Leave(ctx context.Context, settings bus.Settings) error {
 	link, err := b.connect(ctx, "desk partition rescale", "")
 	if err != nil {
@@ -35,7 +34,7 @@ func (b Broker) Leave(ctx context.Context, settings bus.Settings) error {
 	return link.leave(settings.Each())
 }
 
-// leave leads no more lines to the logs of these partitions.
+// leave unbinds the logs of these partitions.
 func (l *Link) leave(partitions []bus.Partition) error {
 	channel, err := l.channel()
 	if err != nil {
@@ -52,27 +51,27 @@ func (l *Link) leave(partitions []bus.Partition) error {
 	return l.end(channel)
 }
 
-// errSegment says that streams are there with files of another length, perhaps. They are left as they are.
+// errSegment means that existing streams may have files of another size. They are kept.
 var errSegment = errors.New("a queue is there with other arguments, and is tried without the length of files")
 
-// mostRefusals is how often in a row a lease may take no message until its queue is made anew.
+// mostRefusals is how often in a row a lease may take no message before its queue is made again.
 const mostRefusals = 3
 
-// A leaseFault says that the lease of a partition takes no message. RabbitMQ 3.10 leaves a quorum queue so for good that was
-// declared while it could not reach the other brokers.
+// A leaseFault means that a partition's lease takes no message. RabbitMQ 3.10 leaves a quorum queue so forever if it was
+// declared while the other brokers were unreachable.
 type leaseFault struct{ reason error }
 
 func (f *leaseFault) Error() string { return "its lease takes no message: " + f.reason.Error() }
 
 func (f *leaseFault) Unwrap() error { return f.reason }
 
-// A declaring has got so far.
+// A declaring is the state of Declare.
 type declaring struct {
 	broker   Broker
 	settings bus.Settings
 	log      *logs.Log
 	next     int   // the next partition
-	segment  int64 // how long the files of its streams are, or 0 where these are there with files of another length
+	segment  int64 // the size of its streams' files, or 0 if existing ones have another
 	refusals int   // how often in a row its lease took no message
 }
 
@@ -103,7 +102,7 @@ func (d *declaring) declareNext(link *Link) error {
 		d.refusals = 0
 	}
 	err := link.declare(d.settings, d.next, d.segment)
-	if isOther(err) && d.segment > 0 { // streams may be there with files of another length, and nothing else may be other
+	if isOther(err) && d.segment > 0 { // existing streams may have files of another size; nothing else may differ
 		d.segment = 0
 		return errSegment
 	}
@@ -113,7 +112,7 @@ func (d *declaring) declareNext(link *Link) error {
 	return err
 }
 
-// deleteLease deletes the lease of a partition. It has no data, and a process that holds it ends its ownership.
+// deleteLease deletes a partition's lease. It has no data, and its holder ends its ownership.
 func (l *Link) deleteLease(settings bus.Settings, partition int) error {
 	channel, err := l.channel()
 	if err != nil {
@@ -125,9 +124,9 @@ func (l *Link) deleteLease(settings bus.Settings, partition int) error {
 	return l.end(channel)
 }
 
-// declare makes the exchanges and the queues of a partition. The broker isn't asked for how many messages a queue has: it would
-// ask the node of the queue's leader, and wait for it without end. Then it marks the answers, so that nobody has to wait for
-// a first message to know that there is none, and puts a message into the lease, which has to take it.
+// declare makes a partition's exchanges and queues. It doesn't ask for message counts: the broker would ask the queue leader's
+// node, and wait without end. Then it marks the answers, so that readers need not wait for a first message, and puts a message
+// into the lease, which must take it.
 func (l *Link) declare(settings bus.Settings, partition int, segment int64) error {
 	channel, err := l.channel()
 	if err != nil {
@@ -173,7 +172,7 @@ func declareOn(channel *amqp.Channel, settings bus.Settings, partition int, segm
 	return nil
 }
 
-// declareQueue makes a queue of a partition, or the registry, and leads to it what belongs there.
+// declareQueue makes and binds a queue of a partition, or the registry.
 func declareQueue(channel *amqp.Channel, settings bus.Settings, partition int, queue string, arguments amqp.Table) error {
 	if _, err := channel.QueueDeclare(queue, true, false, false, true, arguments); err != nil {
 		return fmt.Errorf("queue %s: %w", queue, err)
@@ -189,7 +188,7 @@ func declareQueue(channel *amqp.Channel, settings bus.Settings, partition int, q
 	return nil
 }
 
-// arguments are those of the queues of a partition, and of the registry.
+// arguments returns the queue arguments of a partition, and of the registry.
 func arguments(s bus.Settings, partition int, segment int64) map[string]amqp.Table {
 	stream := amqp.Table{"x-queue-type": "stream", "x-queue-leader-locator": "least-leaders"}
 	if segment > 0 {

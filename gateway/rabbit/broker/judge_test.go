@@ -19,7 +19,7 @@ import (
 	"gateway/rabbit/logs"
 )
 
-// What can't pass is told from what may.
+// Final failures are distinguished from passing ones.
 func TestJudgements(t *testing.T) {
 	for _, c := range []struct {
 		failure error
@@ -43,7 +43,7 @@ func TestJudgements(t *testing.T) {
 	}
 }
 
-// A certificate of a CA that isn't known is told, but not where another broker may come back.
+// A certificate from an unknown CA is reported, unless another broker may come back.
 func TestACertificateThatIsNotTrusted(t *testing.T) {
 	server := httptest.NewUnstartedServer(nil)
 	server.Config.ErrorLog = log.New(io.Discard, "", 0)
@@ -55,7 +55,7 @@ func TestACertificateThatIsNotTrusted(t *testing.T) {
 		return b.Judge(err)
 	}
 	address, away := "amqps://"+strings.TrimPrefix(server.URL, "https://"), "amqp://127.0.0.1:1"
-	for judge(address) != bus.Untrusted { // a machine with much to do may be too late for it
+	for judge(address) != bus.Untrusted { // a busy machine may be too late for it
 	}
 	for range make([]int, 4) {
 		if is := judge(address, away); is != bus.Passing {
@@ -64,12 +64,12 @@ func TestACertificateThatIsNotTrusted(t *testing.T) {
 	}
 }
 
-// Streams that are there with files of another length stay as they are. A queue with other arguments ends the declaring.
-func TestDeclaringBesideOtherQueues(t *testing.T) {
+// Existing streams with files of another size are kept. A queue with other arguments ends the declaring.
+func TestDeclaringWithOtherQueues(t *testing.T) {
 	b := brokertest.Start(t)
-	// The client library has a race of its own where a connection is lost while it is opened, so that may take as long as it takes.
+	// The client library has a race if a connection is lost while it opens, so opening may take any time.
 	on, silent := Broker{Addresses: []string{b.Address}, opening: time.Hour}, logs.New(io.Discard, "test")
-	var asked, isLease int32 // of the stream of lines; 1 once the lease is the other one. The broker has a goroutine for each connection
+	var asked, isLease int32 // asked counts the log's declarations; isLease is 1 once the lease is the differing queue. The broker has a goroutine for each connection
 	b.Other = func(queue string) bool {
 		if atomic.LoadInt32(&isLease) == 1 {
 			return brokertest.Is(queue, "lease", "1")
@@ -86,7 +86,7 @@ func TestDeclaringBesideOtherQueues(t *testing.T) {
 	}
 }
 
-// A lease that takes no message is made anew.
+// A lease that takes no message is made again.
 func TestDeclaringALeaseThatTakesNoMessage(t *testing.T) {
 	b := brokertest.Start(t)
 	b.Nacks = func(queue string) bool { return brokertest.Is(queue, "lease", "1") && len(b.Deleted()) == 0 }
@@ -100,7 +100,7 @@ func TestDeclaringALeaseThatTakesNoMessage(t *testing.T) {
 	}
 }
 
-// A lease that takes a message in the end is left as it is.
+// A lease that finally takes a message is kept.
 func TestDeclaringALeaseThatIsLate(t *testing.T) {
 	b := brokertest.Start(t)
 	var asked int32

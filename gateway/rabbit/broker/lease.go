@@ -13,39 +13,39 @@ import (
 	"gateway/rabbit/bus"
 )
 
-// The lease of a partition is a message in a quorum queue with a single active consumer: who is handed it owns the partition,
+// The lease of a partition is a message in a quorum queue with a single active consumer. Whoever receives it owns the partition
 // until the connection ends.
 
-// renewal is how often the message is replaced by a new one: the broker ends a delivery that nobody acknowledges, by
-// its setting consumer_timeout, of half an hour where it isn't set, and of a minute at least.
+// renewal is how often the message is replaced by a new one. The broker ends an unacknowledged delivery after consumer_timeout:
+// half an hour by default, one minute at least.
 const renewal = 15 * time.Second
 
-// How long a lease is left alone that could not be asked for, and one whose queue isn't there.
+// Pauses after a lease that could not be requested, and after one without a queue.
 const (
 	askPause     = 2 * time.Second
 	missingPause = 10 * time.Second
 )
 
-// gather is how long what is told of missing queues is gathered.
+// gather is how long reports about missing queues are collected.
 const gather = time.Second
 
-// mostAsks is how often in a row a lease may not be asked for until another broker is tried.
+// mostAsks is how often in a row requesting a lease may fail before another broker is tried.
 const mostAsks = 3
 
-// A held is the lease of one partition, once it is this process's.
+// A held is the lease of one partition that this process holds.
 type held struct {
 	partition  bus.Partition
 	route      bus.Route
 	link       *Link
 	channel    *amqp.Channel
-	closed     chan *amqp.Error // has the reason where the broker ends the channel
+	closed     chan *amqp.Error // has the reason if the broker ends the channel
 	publisher  *Publisher       // on this channel
 	deliveries <-chan amqp.Delivery
 	message    amqp.Delivery
 }
 
-// Own waits until one of these partitions is free, and takes its lease. It is kept until the link fails, or the link fails
-// since it can't be kept. Missing is told, again and again, which of the partitions have no queues.
+// Own waits until one of these partitions is free, and takes its lease. The lease is kept until the link fails; if it can't be
+// kept, the link fails. missing is called again and again with the partitions that have no queues.
 func (l *Link) Own(ctx context.Context, partitions []bus.Partition, missing func([]bus.Partition)) (bus.Partition, error) {
 	w := &waiting{link: l, won: make(chan *held), asked: make(chan asked), over: make(chan struct{})}
 	defer close(w.over)
@@ -60,8 +60,8 @@ func (l *Link) Own(ctx context.Context, partitions []bus.Partition, missing func
 	return won.partition, nil
 }
 
-// A waiting waits for the lease of any partition, of each on a channel of its own, and takes the first. What befalls the
-// queue of one, as that it has no leader, neither holds up another nor ends the link.
+// A waiting waits for the lease of any partition, each on its own channel, and takes the first. A problem with one queue, such
+// as a missing leader, neither delays the others nor ends the link.
 type waiting struct {
 	link  *Link
 	won   chan *held
@@ -69,14 +69,14 @@ type waiting struct {
 	over  chan struct{} // is closed once a lease is won, or none is waited for any more
 }
 
-// An asked says of a partition's lease that was asked for why that failed, if it did, and how often in a row.
+// An asked is why requesting a partition's lease failed, if it did, and how often in a row.
 type asked struct {
 	partition bus.Partition
 	failure   error
 	failures  int
 }
 
-// final is the failure, if asking again at this broker does not help.
+// final returns the failure if another attempt at this broker doesn't help.
 func (a asked) final() error {
 	is := (Broker{}).Judge(a.failure)
 	if isMissing(a.failure) || is == bus.Passing && a.failures < mostAsks {
@@ -111,7 +111,7 @@ func (w *waiting) wait(ctx context.Context, missing func([]bus.Partition)) (*hel
 	}
 }
 
-// those are the partitions for which it is so.
+// those returns the partitions whose value is true.
 func those(is map[bus.Partition]bool) []bus.Partition {
 	var found []bus.Partition
 	for partition, so := range is {
@@ -122,7 +122,7 @@ func those(is map[bus.Partition]bool) []bus.Partition {
 	return found
 }
 
-// seek asks for the lease of a partition, again and again, until some lease is won.
+// seek requests the lease of a partition again and again, until any lease is won.
 func (w *waiting) seek(partition bus.Partition) {
 	for failures := 0; ; {
 		lease := &held{partition: partition, link: w.link, route: partition.Route(bus.AnswersExchange, bus.TopicLease)}
@@ -144,7 +144,7 @@ func (w *waiting) seek(partition bus.Partition) {
 	}
 }
 
-// pause waits after a failure, and says whether a lease is still waited for.
+// pause waits after a failure, and reports whether a lease is still wanted.
 func (w *waiting) pause(failure error) bool {
 	pause := askPause
 	if isMissing(failure) {
@@ -161,8 +161,8 @@ func (w *waiting) pause(failure error) bool {
 	return false
 }
 
-// ask asks for a lease, once its queue has confirmed a message and so has a leader: where a queue without one is asked
-// for its messages, RabbitMQ ends the whole connection, and with it the lease of another partition.
+// ask requests a lease, once its queue has confirmed a message and thus has a leader. RabbitMQ ends the whole connection of a
+// consumer of a queue without one, and with it the lease of another partition.
 func (w *waiting) ask(l *held) (err error) {
 	if l.channel, err = w.link.loose(); err != nil {
 		return err
@@ -184,11 +184,11 @@ func (w *waiting) ask(l *held) (err error) {
 	return err
 }
 
-// handOver waits until the lease is this process's, and hands it over if it is the first. It says whether it was.
+// handOver waits until this process has the lease, and hands it over if it is the first. It reports whether it was.
 func (w *waiting) handOver(l *held) bool {
 	select {
 	case delivery, open := <-l.deliveries:
-		if !open { // the broker has ended the waiting, as for a queue that is deleted
+		if !open { // the broker ended the waiting, for example because the queue was deleted
 			return false
 		}
 		l.message = delivery
@@ -215,7 +215,7 @@ func (w *waiting) isOver() bool {
 	}
 }
 
-// because is why the broker ended the channel, if it did, and otherwise the error.
+// because returns the broker's reason for ending the channel, or else the error.
 func (l *held) because(err error) error {
 	select {
 	case reason := <-l.closed:
@@ -227,9 +227,9 @@ func (l *held) because(err error) error {
 	return err
 }
 
-// giveUp ends the channel, and the message goes back with it. The consumer isn't cancelled before: of a queue without a
-// leader, that would end the connection. A lease that doesn't go back is kept from all others, so the link fails then. A
-// channel without a consumer keeps nothing, and may stand still in the broker for a minute and more.
+// giveUp ends the channel, which returns the message. The consumer isn't cancelled first, as that would end the connection if
+// the queue has no leader. A lease that doesn't go back is withheld from all others, so the link fails then. A channel without
+// a consumer keeps nothing, and may hang in the broker for over a minute.
 func (l *held) giveUp() {
 	if l.channel == nil {
 		return
@@ -252,7 +252,7 @@ func (l *held) giveUp() {
 	}
 }
 
-// errTaken says that the broker has ended the lease.
+// errTaken means that the broker ended the lease.
 var errTaken = errors.New("it was taken away")
 
 // keep renews the lease until the link fails, or fails the link.
@@ -270,7 +270,7 @@ func (l *held) renew() error {
 	defer while.Stop()
 	select {
 	case <-while.C:
-	case <-l.deliveries: // a second message does not come before the first is acknowledged
+	case <-l.deliveries: // no second message comes before the first is acknowledged
 		return l.because(errTaken)
 	case <-l.link.Done():
 		return l.link.Err()
@@ -300,7 +300,7 @@ func (l *held) renew() error {
 	}
 }
 
-// isMissing says of a failure whether a queue isn't there, or is down.
+// isMissing reports whether the failure is that a queue is missing or down.
 func isMissing(failure error) bool {
 	var reason *amqp.Error
 	return errors.Is(failure, bus.ErrMissing) || errors.As(failure, &reason) && reason.Code == amqp.NotFound

@@ -24,8 +24,8 @@ func linked(t *testing.T, b *brokertest.Broker, partitions int) (*Link, bus.Sett
 	return link, bus.Settings{Partitions: partitions}
 }
 
-// A partition that is free is taken at once, also where the queues of others do not confirm, and these are given up.
-func TestALeaseBesideQueuesThatDoNotConfirm(t *testing.T) {
+// A free partition is taken at once even if other queues don't confirm, and these are given up.
+func TestALeaseNextToQueuesThatDoNotConfirm(t *testing.T) {
 	b := brokertest.Start(t)
 	b.Confirms = func(queue string) bool { return brokertest.Is(queue, "lease", "3") }
 	b.Full = b.Confirms
@@ -42,8 +42,8 @@ func TestALeaseBesideQueuesThatDoNotConfirm(t *testing.T) {
 	}
 }
 
-// A queue without a leader confirms nothing, and who reads it has the connection ended: the lease of another is kept.
-func TestALeaseBesideQueuesWithoutALeader(t *testing.T) {
+// A queue without a leader confirms nothing, and ends the connection of its consumer: the lease of another partition is kept.
+func TestALeaseNextToQueuesWithoutALeader(t *testing.T) {
 	b := brokertest.Start(t)
 	b.Confirms = func(queue string) bool { return brokertest.Is(queue, "lease", "3") }
 	b.Full = b.Confirms
@@ -58,7 +58,7 @@ func TestALeaseBesideQueuesWithoutALeader(t *testing.T) {
 	if err != nil {
 		t.Fatal(err)
 	}
-	if err := link.end(channel); err != nil { // what was asked for before is answered
+	if err := link.end(channel); err != nil { // earlier requests are answered
 		t.Error(err)
 	}
 	if consumed := b.Consumed(); len(consumed) != 1 {
@@ -66,8 +66,8 @@ func TestALeaseBesideQueuesWithoutALeader(t *testing.T) {
 	}
 }
 
-// A channel that stands still in the broker without a consumer keeps no lease, and ends no link.
-func TestGivingUpAChannelThatStands(t *testing.T) {
+// A channel without a consumer that hangs in the broker keeps no lease, and ends no link.
+func TestGivingUpAChannelThatHangs(t *testing.T) {
 	b := brokertest.Start(t)
 	b.Confirms = func(string) bool { return false }
 	b.Stands = func(string) bool { return true }
@@ -94,7 +94,7 @@ func TestGivingUpAChannelThatStands(t *testing.T) {
 	}
 }
 
-// givenUp waits until all leases that were asked for are given up, but for the one that is held.
+// givenUp waits until all requested leases are given up, except the held one.
 func givenUp(t *testing.T, b *brokertest.Broker) {
 	t.Helper()
 	for len(b.GivenUp()) != len(b.Consumed())-1 {
@@ -102,18 +102,18 @@ func givenUp(t *testing.T, b *brokertest.Broker) {
 	}
 }
 
-// A partition whose queues aren't there is told, and holds up no other.
-func TestALeaseBesideAQueueThatIsMissing(t *testing.T) {
+// A partition without queues is reported, and delays no other.
+func TestALeaseNextToAQueueThatIsMissing(t *testing.T) {
 	b := brokertest.Start(t)
 	b.Missing = func(queue string) bool { return !brokertest.Is(queue, "lease", "1") }
 	link, settings := linked(t, b, 2)
-	told := make(chan []bus.Partition, 1)
+	reported := make(chan []bus.Partition, 1)
 	waited := make(chan bus.Partition, 1)
 	go func() {
-		held, _ := link.Own(context.Background(), settings.Each(), func(missing []bus.Partition) { told <- missing })
+		held, _ := link.Own(context.Background(), settings.Each(), func(missing []bus.Partition) { reported <- missing })
 		waited <- held
 	}()
-	if missing := <-told; len(missing) != 1 || missing[0].Number != 0 {
+	if missing := <-reported; len(missing) != 1 || missing[0].Number != 0 {
 		t.Errorf("%v are missing", missing)
 	}
 	select {
@@ -123,7 +123,7 @@ func TestALeaseBesideAQueueThatIsMissing(t *testing.T) {
 	}
 }
 
-// The partitions that were asked for are given up once one is held.
+// The other requested partitions are given up once one is held.
 func TestTheOthersAreGivenUp(t *testing.T) {
 	b := brokertest.Start(t)
 	b.Full = func(queue string) bool {
@@ -136,7 +136,7 @@ func TestTheOthersAreGivenUp(t *testing.T) {
 	givenUp(t, b)
 }
 
-// Where the broker ends the waiting for a lease, it is asked for again.
+// If the broker ends the waiting for a lease, it is requested again.
 func TestAWaitingThatTheBrokerEnds(t *testing.T) {
 	b := brokertest.Start(t)
 	b.Ends = func(queue string) bool { return brokertest.Is(queue, "lease", "1") && len(b.GivenUp()) == 0 }
@@ -147,7 +147,7 @@ func TestAWaitingThatTheBrokerEnds(t *testing.T) {
 	}
 }
 
-// A right that is missing ends the waiting, and so does a lease that can't be asked for again and again.
+// A missing permission ends the waiting, and so do repeated failures to request a lease.
 func TestALeaseThatCanNotBeAskedFor(t *testing.T) {
 	silent := errors.New("no confirm")
 	for _, c := range []struct {

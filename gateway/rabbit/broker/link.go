@@ -16,13 +16,13 @@ import (
 const (
 	heartbeat   = 10 * time.Second
 	dialTimeout = 5 * time.Second
-	dialTurn    = 500 * time.Millisecond // how long a broker has until the next is tried beside it
-	closePause  = time.Second            // how long a connection may take to end in good order
-	reasonPause = time.Second            // how long the reason of a failure may be on its way
+	dialTurn    = 500 * time.Millisecond // how long a broker has until the next is tried too
+	closePause  = time.Second            // how long a clean close may take
+	reasonPause = time.Second            // how long the reason of a failure may take to arrive
 )
 
-// A Link is a connection to one of the brokers. It fails as a whole: where a channel, a message or a wait fails, all
-// of it ends, and the work is begun anew on another.
+// A Link is a connection to one of the brokers. It fails as a whole: if a channel, a message or a wait fails, all of it ends,
+// and the work begins again on another link.
 type Link struct {
 	address    string // of the broker
 	connection *amqp.Connection
@@ -32,7 +32,7 @@ type Link struct {
 	err        error
 }
 
-// An away error is bus.ErrAway, with the reason of one of the brokers.
+// An away error is bus.ErrAway with the reason of one of the brokers.
 type away struct{ reason error }
 
 func (a *away) Error() string { return fmt.Sprintf("%v: %v", bus.ErrAway, a.reason) }
@@ -46,8 +46,8 @@ type dialed struct {
 	err  error
 }
 
-// connect connects to one of the brokers, in random order. One that does not answer at once holds nothing up: the next
-// is tried beside it. The link fails where the context ends.
+// connect connects to one of the brokers, in random order. A broker that doesn't answer at once delays nothing: the next is
+// tried too. The link fails when the context ends.
 func (b Broker) connect(ctx context.Context, name, last string) (*Link, error) {
 	order, open := b.order(last), 0
 	results := make(chan dialed, len(order))
@@ -71,15 +71,15 @@ func (b Broker) connect(ctx context.Context, name, last string) (*Link, error) {
 				go result.link.watch(ctx)
 				return result.link, nil
 			}
-			fault = b.telling(fault, result.err)
+			fault = b.moreUseful(fault, result.err)
 		}
 	}
 	return nil, &away{fault}
 }
 
-// telling is which of two brokers' failures says more: one of rights. A certificate that isn't trusted says nothing where another
-// broker may come back.
-func (b Broker) telling(before, next error) error {
+// moreUseful returns the more useful of two brokers' failures: one about permissions. An untrusted certificate says nothing if
+// another broker may come back.
+func (b Broker) moreUseful(before, next error) error {
 	isOfRights := func(failure error) bool { is := b.Judge(failure); return is == bus.Refused || is == bus.Doubted }
 	if before == nil || isOfRights(next) || !isOfRights(before) && b.Judge(before) == bus.Untrusted {
 		return next
@@ -87,7 +87,7 @@ func (b Broker) telling(before, next error) error {
 	return before
 }
 
-// closeOthers closes the connections that came too late.
+// closeOthers closes the connections that were too late.
 func closeOthers(results <-chan dialed, open int) {
 	for ; open > 0; open-- {
 		if result := <-results; result.err == nil {
@@ -115,7 +115,7 @@ func (b Broker) dial(ctx context.Context, address, name string) (*Link, error) {
 				return nil, err
 			}
 			link.socket = socket
-			// The library takes the deadline away once the connection is open.
+			// The library removes the deadline once the connection is open.
 			return socket, socket.SetDeadline(time.Now().Add(timeout))
 		},
 	})
@@ -148,7 +148,7 @@ func lost(what string, reason *amqp.Error) error {
 	return fmt.Errorf("%s ended: %w", what, reason)
 }
 
-// Fail ends the link, for this reason if it is the first.
+// Fail ends the link, with this reason if it is the first.
 func (l *Link) Fail(reason error) {
 	l.once.Do(func() {
 		l.err = reason
@@ -157,7 +157,7 @@ func (l *Link) Fail(reason error) {
 	})
 }
 
-// Close ends the link in good order.
+// Close ends the link cleanly.
 func (l *Link) Close() {
 	l.close()
 	l.Fail(errors.New("the connection was closed"))
@@ -175,16 +175,16 @@ func (l *Link) close() {
 	}
 }
 
-// Address is that of the broker.
+// Address returns the broker's address.
 func (l *Link) Address() string { return l.address }
 
-// Done is closed once the link has failed.
+// Done returns a channel that is closed once the link has failed.
 func (l *Link) Done() <-chan struct{} { return l.done }
 
-// Err is why the link failed. It is to be asked once Done is closed.
+// Err returns why the link failed. Call it once Done is closed.
 func (l *Link) Err() error { return l.err }
 
-// channel opens a channel. Where it fails, the link does.
+// channel opens a channel. If that fails, so does the link.
 func (l *Link) channel() (*amqp.Channel, error) {
 	channel, err := l.connection.Channel()
 	if err != nil {
@@ -199,7 +199,7 @@ func (l *Link) channel() (*amqp.Channel, error) {
 	return channel, nil
 }
 
-// loose opens a channel whose failure isn't that of the link.
+// loose opens a channel whose failure doesn't fail the link.
 func (l *Link) loose() (*amqp.Channel, error) {
 	channel, err := l.connection.Channel()
 	if err != nil {
@@ -208,7 +208,7 @@ func (l *Link) loose() (*amqp.Channel, error) {
 	return channel, nil
 }
 
-// Because is the reason why the link failed, if it has, and otherwise the error.
+// Because returns why the link failed, if it has, or else the error.
 func (l *Link) Because(err error) error {
 	select {
 	case <-l.done:
@@ -218,9 +218,9 @@ func (l *Link) Because(err error) error {
 	}
 }
 
-// end closes a channel once the broker has done all that was asked on it. The client library loses the broker's reason
-// for closing a channel where it has read that reason but not yet reported it when Close is called. So end first asks for
-// something that is answered: the broker answers in order, and after that answer nothing is left that it could refuse.
+// end closes a channel once the broker has done all that was requested on it. The client library loses the broker's reason for
+// closing a channel if Close is called after that was read and before it is reported. So end first makes a request that is
+// answered. The broker answers in order, so after this answer it has nothing left to refuse.
 func (l *Link) end(channel *amqp.Channel) error {
 	if err := channel.Qos(1, 0, false); err != nil {
 		return l.Because(fmt.Errorf("closing a channel: %w", err))

@@ -10,8 +10,8 @@ import (
 	"gateway/rabbit/bus"
 )
 
-// Brokers that are there and do not answer hold a connection up for no longer than their turns are.
-func TestConnectingBesideSilentBrokers(t *testing.T) {
+// Brokers that don't answer delay a connection no longer than their turns.
+func TestConnectingNextToSilentBrokers(t *testing.T) {
 	var b Broker
 	for range make([]int, 5) {
 		b.Addresses = append(b.Addresses, brokertest.Silent(t))
@@ -28,7 +28,7 @@ func TestConnectingBesideSilentBrokers(t *testing.T) {
 	link.Close()
 }
 
-// Where no broker is reached, this is what is told.
+// The error if no broker is reached.
 func TestNoBroker(t *testing.T) {
 	b := Broker{Addresses: []string{"amqp://127.0.0.1:1", "amqp://127.0.0.1:2"}}
 	if _, err := b.Connect(context.Background(), "test", ""); !errors.Is(err, bus.ErrAway) {
@@ -36,7 +36,7 @@ func TestNoBroker(t *testing.T) {
 	}
 }
 
-// Streams whose leader does not tell how many messages there are hold nothing up.
+// Streams whose leader doesn't report the number of messages delay nothing.
 func TestStreamsThatAreNotCounted(t *testing.T) {
 	b := brokertest.Start(t)
 	b.Counts = func(string) bool { return false }

@@ -11,18 +11,18 @@ import (
 	"gateway/rabbit/bus"
 )
 
-// maximumOpen is how many messages of a publisher may be without a confirm: one for each partition, and some marks.
+// maximumOpen limits a publisher's unconfirmed messages: one for each partition, and some marks.
 const maximumOpen = 2 * bus.MaximumPartitions
 
-// A Publisher publishes messages, and tells of their confirms in the order in which they were published.
+// A Publisher publishes messages, and reports their confirms in the order of the messages.
 type Publisher struct {
 	link     *Link
 	channel  *amqp.Channel
 	confirms chan error
-	open     []time.Time // when the messages without a confirm were published, in order
+	open     []time.Time // when the unconfirmed messages were published, in order
 }
 
-// Appender opens a channel of its own for publishing.
+// Appender opens its own channel for publishing.
 func (l *Link) Appender() (bus.Appender, error) {
 	publisher, err := l.publisher()
 	if err != nil {
@@ -39,7 +39,7 @@ func (l *Link) publisher() (*Publisher, error) {
 	return l.publisherOn(channel)
 }
 
-// publisherOn lets a channel publish.
+// publisherOn enables publishing on a channel.
 func (l *Link) publisherOn(channel *amqp.Channel) (*Publisher, error) {
 	if err := channel.Confirm(false); err != nil {
 		return nil, l.Because(fmt.Errorf("asking for confirms: %w", err))
@@ -50,7 +50,7 @@ func (l *Link) publisherOn(channel *amqp.Channel) (*Publisher, error) {
 	return p, nil
 }
 
-// judge hands the confirms on, as what they say.
+// judge passes the confirms on as what they mean.
 func (p *Publisher) judge(confirms <-chan amqp.Confirmation, returned <-chan amqp.Return) {
 	defer close(p.confirms)
 	for confirmation := range confirms {
@@ -58,13 +58,13 @@ func (p *Publisher) judge(confirms <-chan amqp.Confirmation, returned <-chan amq
 	}
 }
 
-// said is what a confirm says: nil if the message is in its stream.
+// said returns what a confirm means: nil if the message is in its stream.
 func said(confirmation amqp.Confirmation, returned <-chan amqp.Return) error {
 	if !confirmation.Ack {
 		return errors.New("the broker refused a message")
 	}
 	select {
-	case message, open := <-returned: // what comes back is confirmed too, but later
+	case message, open := <-returned: // a returned message is confirmed too, but later
 		if !open {
 			return errors.New("the channel ended")
 		}
@@ -74,7 +74,7 @@ func said(confirmation amqp.Confirmation, returned <-chan amqp.Return) error {
 	}
 }
 
-// Open is how many messages are without a confirm.
+// Open returns how many messages are unconfirmed.
 func (p *Publisher) Open() int { return len(p.open) }
 
 // Append publishes a message.
@@ -88,10 +88,10 @@ func (p *Publisher) Append(to bus.Route, headers bus.Headers, body []byte) error
 	return nil
 }
 
-// Confirms has a value for each confirm; each is to be handed to Take.
+// Confirms has a value for each confirm; pass each to Take.
 func (p *Publisher) Confirms() <-chan error { return p.confirms }
 
-// Take takes in the confirm of the oldest message without one.
+// Take takes the confirm of the oldest unconfirmed message.
 func (p *Publisher) Take(confirm error, open bool) error {
 	switch {
 	case !open:
@@ -105,7 +105,7 @@ func (p *Publisher) Take(confirm error, open bool) error {
 	return nil
 }
 
-// Late tells whether some message has waited for its confirm for too long.
+// Late returns an error if a message has waited too long for its confirm.
 func (p *Publisher) Late() error {
 	if len(p.open) > 0 && time.Since(p.open[0]) > bus.Patience {
 		return fmt.Errorf("no confirm for %v", bus.Patience)
@@ -116,7 +116,7 @@ func (p *Publisher) Late() error {
 // Settle waits until all messages are confirmed.
 func (p *Publisher) Settle() error { return p.settleUnless(nil) }
 
-// settleUnless waits until all messages are confirmed, or it is enough.
+// settleUnless waits until all messages are confirmed, or enough is closed.
 func (p *Publisher) settleUnless(enough <-chan struct{}) error {
 	late := time.NewTimer(bus.Patience)
 	defer late.Stop()

@@ -11,16 +11,17 @@ import (
 	"gateway/rabbit/logs"
 )
 
-// fillOpen is how many marks are without a confirm while a log is filled.
+// fillOpen is how many marks are unconfirmed while a log is filled.
 const fillOpen = 1000
 
-// A Repair makes the log of a partition anew, from its answers and their last snapshot. The offsets of the new log go on behind
-// those of the old one, so that places stay in order: up to there it is filled with marks.
+// A Repair makes the log of a partition again, from its answers and their last snapshot. The new log's offsets continue those
+// of the old one, so that places stay in order. It is filled with marks up to there.
 type Repair struct {
 	Partition bus.Partition
-	// After is set where there is another number of partitions since. The new log is closed then, as the old one was or would have been.
+	// After is set if there is another number of partitions since. The new log is closed then, as the old one was or would have
+	// been.
 	After   bus.Settings
-	Program string // the version of this one
+	Program string // this program's version
 	Log     *logs.Log
 }
 
@@ -79,7 +80,7 @@ func (b Broker) repair(ctx context.Context, r Repair) error {
 	return link.leave([]bus.Partition{r.Partition})
 }
 
-// lostAfter is the gap after what is answered.
+// lostAfter returns the gap after the last answer.
 func lostAfter(h *bus.History) ledger.Gap {
 	first := h.Upto().Offset + 1
 	if h.More {
@@ -96,7 +97,7 @@ func (r Repair) close(publisher *Publisher) error {
 	return publisher.Settle()
 }
 
-// connectDeclared connects, and makes the queues that aren't there. Streams may be there with files of another length.
+// connectDeclared connects, and makes the missing queues. Existing streams may have files of another size.
 func (b Broker) connectDeclared(ctx context.Context, r Repair) (link *Link, err error) {
 	for _, segment := range []int64{SegmentBytes, 0} {
 		if link, err = b.connect(ctx, "desk partition repair", ""); err != nil {
@@ -112,7 +113,7 @@ func (b Broker) connectDeclared(ctx context.Context, r Repair) (link *Link, err 
 	return nil, err
 }
 
-// again deletes the log, makes it anew, and fills it up to an offset.
+// again deletes the log, makes it again, and fills it up to an offset.
 func (r Repair) again(link *Link, publisher *Publisher, upto int64) error {
 	channel, err := link.channel()
 	if err != nil {
@@ -143,7 +144,7 @@ func (r Repair) again(link *Link, publisher *Publisher, upto int64) error {
 	return publisher.Settle()
 }
 
-// publish says in the answers what is lost, and publishes a snapshot that goes on behind it.
+// publish writes the loss into the answers, and publishes a snapshot that continues after it.
 func (r Repair) publish(publisher *Publisher, h *bus.History, gap ledger.Gap) error {
 	route := r.Partition.Route(bus.AnswersExchange, bus.TopicAnswers)
 	part := bus.Part{After: h.Upto(), Upto: gap.Place(), SnapshotAt: h.At}

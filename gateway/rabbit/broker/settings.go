@@ -1,5 +1,5 @@
-// Package broker is the bus on RabbitMQ, and the only package that knows the client library: where the brokers are, a connection
-// that ends whole, publishing with confirms, reading a stream, and the lease of a partition.
+// Package broker implements the bus on RabbitMQ, and is the only package that uses the client library: broker addresses, a
+// connection that ends as a whole, publishing with confirms, reading a stream, and the lease of a partition.
 package broker
 
 import (
@@ -19,13 +19,13 @@ import (
 	"gateway/rabbit/bus"
 )
 
-// A Broker is the bus on RabbitMQ, at these addresses of the scheme amqp or amqps.
+// A Broker is a bus on RabbitMQ at these amqp or amqps addresses.
 type Broker struct {
 	Addresses []string
-	opening   time.Duration // how long a connection may take to open; 0 is dialTimeout
+	opening   time.Duration // how long a connection may take to open; 0 means dialTimeout
 }
 
-// Read reads the environment. Without it there is one partition, at a broker on this machine. An error does not tell an
+// Read reads the environment. Without it there is one partition, at a broker on this machine. An error doesn't contain an
 // address, which may have a password.
 func Read() (Broker, bus.Settings, error) {
 	b, settings := Broker{Addresses: []string{"amqp://127.0.0.1"}}, bus.Settings{Partitions: 1}
@@ -47,7 +47,7 @@ func Read() (Broker, bus.Settings, error) {
 	return b, settings, nil
 }
 
-// order is the addresses in random order, but for the last.
+// order returns the addresses in random order, with last at the end.
 func (b Broker) order(last string) []string {
 	var order, end []string
 	for _, at := range rand.Perm(len(b.Addresses)) {
@@ -69,7 +69,7 @@ func (b Broker) Connect(ctx context.Context, name, last string) (bus.Link, error
 	return link, nil
 }
 
-// Pause waits, but not beyond the context's end.
+// Pause waits, until the context ends at most.
 func (b Broker) Pause(ctx context.Context, long time.Duration) {
 	wait := time.NewTimer(long)
 	defer wait.Stop()
@@ -79,8 +79,8 @@ func (b Broker) Pause(ctx context.Context, long time.Duration) {
 	}
 }
 
-// Judge says what a failure means. The client library says that a login was refused also where the connection broke off at that
-// point, so that is doubted.
+// Judge says what a failure means. The client library reports a refused login also if the connection broke off then, so that is
+// doubted.
 func (b Broker) Judge(failure error) bus.Judgement {
 	var reason *amqp.Error
 	switch {
@@ -102,8 +102,8 @@ func (b Broker) Judge(failure error) bus.Judgement {
 	return bus.Passing
 }
 
-// isUntrusted says of a failure whether TLS ended it: the certificate isn't that of the broker, or of a CA that is known, or the
-// broker speaks no TLS there.
+// isUntrusted reports whether TLS failed: the certificate is not the broker's or has an unknown CA, or the broker doesn't speak
+// TLS there.
 func isUntrusted(failure error) bool {
 	var authority x509.UnknownAuthorityError
 	var name x509.HostnameError
@@ -112,18 +112,18 @@ func isUntrusted(failure error) bool {
 	return errors.As(failure, &authority) || errors.As(failure, &name) || errors.As(failure, &invalid) || errors.As(failure, &plain)
 }
 
-// isOther tells of a failure whether a queue or an exchange is there with other arguments than it was declared with.
+// isOther reports whether a queue or exchange exists with other arguments.
 func isOther(failure error) bool {
 	var reason *amqp.Error
 	return errors.As(failure, &reason) && reason.Code == amqp.PreconditionFailed && strings.Contains(reason.Reason, "inequivalent arg")
 }
 
-// isDown tells whether a queue is there, and the broker that has it isn't, or doesn't know it yet after its start.
+// isDown reports whether a queue's broker is down, or doesn't know the queue yet after its start.
 func isDown(reason *amqp.Error) bool {
 	return reason.Code == amqp.NotFound && strings.Contains(reason.Reason, "is down or inaccessible")
 }
 
-// isTooLong tells whether a message is longer than the broker's max_message_size.
+// isTooLong reports whether a message exceeds the broker's max_message_size.
 func isTooLong(reason *amqp.Error) bool {
 	return reason.Code == amqp.PreconditionFailed && strings.Contains(reason.Reason, "is larger than")
 }

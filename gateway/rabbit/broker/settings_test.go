@@ -26,7 +26,7 @@ func TestSettings(t *testing.T) {
 	}
 }
 
-// A wrong address is told before anything is tried, and without what it says.
+// A wrong address is reported before anything is tried, and without its text.
 func TestAWrongAddress(t *testing.T) {
 	for _, addresses := range []string{"http://user:secret@a", "amqp://a,b", "amqp://user:secret@a:port", "amqp://a, amqp://b"} {
 		t.Setenv(bus.BrokersVariable, addresses)
@@ -36,7 +36,7 @@ func TestAWrongAddress(t *testing.T) {
 	}
 }
 
-// A broker that has failed is tried last.
+// A broker that failed is tried last.
 func TestTheOrderOfBrokers(t *testing.T) {
 	b := Broker{Addresses: []string{"a", "b", "c"}}
 	first := make(map[string]bool)

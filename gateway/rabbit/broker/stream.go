@@ -11,23 +11,23 @@ import (
 	"gateway/rabbit/bus"
 )
 
-// offsetHeader is the header in which the broker tells a message's offset, and is told where a reader begins.
+// offsetHeader is the header with a message's offset, and with the offset at which a reader begins.
 const offsetHeader = "x-stream-offset"
 
-// A Stream is being read.
+// A Stream is a reader of a stream.
 type Stream struct {
 	link     *Link
 	channel  *amqp.Channel
 	arrivals chan bus.Message
-	together int // so many messages are acknowledged together, which is less work for the broker
+	together int // how many messages are acknowledged together, which is less work for the broker
 	taken    int // since the last of them
 	last     amqp.Delivery
 	closed   chan struct{}
-	mutex    sync.Mutex // is held while a message is acknowledged, and while the channel is closed
+	mutex    sync.Mutex // is held while a message is acknowledged or the channel is closed
 	isClosed bool
 }
 
-// offsetOf is where a reader begins, as the broker is told it.
+// offsetOf returns where a reader begins, in the broker's form.
 func offsetOf(from bus.From) interface{} {
 	switch from.Place {
 	case bus.Last:
@@ -71,7 +71,7 @@ func (l *Link) read(what bus.Reading) (*Stream, error) {
 	return s, nil
 }
 
-// handOn hands the messages on, one after the other, and lets the broker send further ones.
+// handOn passes the messages on one by one, and acknowledges them so that more come.
 func (s *Stream) handOn(deliveries <-chan amqp.Delivery) {
 	defer close(s.arrivals)
 	rest := time.NewTimer(acknowledgePause)
@@ -112,11 +112,11 @@ func (s *Stream) handOn(deliveries <-chan amqp.Delivery) {
 	}
 }
 
-// acknowledgePause is how long a message waits at most to be acknowledged with others: the broker ends a reader that leaves one
-// for too long.
+// acknowledgePause limits how long a message waits to be acknowledged with others: the broker ends a reader that leaves one for
+// too long.
 const acknowledgePause = time.Second
 
-// acknowledge lets the broker send further messages. On a channel that is being closed nothing may be said.
+// acknowledge lets the broker send more messages. Nothing may be sent on a channel that is being closed.
 func (s *Stream) acknowledge() error {
 	s.mutex.Lock()
 	defer s.mutex.Unlock()
@@ -128,7 +128,7 @@ func (s *Stream) acknowledge() error {
 	return err
 }
 
-// messageOf is a delivery of a stream as a message.
+// messageOf returns a delivery as a message.
 func messageOf(delivery amqp.Delivery) (bus.Message, error) {
 	offset, is := delivery.Headers[offsetHeader].(int64)
 	if !is {
@@ -141,7 +141,7 @@ func messageOf(delivery amqp.Delivery) (bus.Message, error) {
 // Arrivals has the messages.
 func (s *Stream) Arrivals() <-chan bus.Message { return s.arrivals }
 
-// Ended is why no more come.
+// Ended returns why no more come.
 func (s *Stream) Ended() error { return s.link.Because(errors.New("the stream's reader ended")) }
 
 // Next waits for the next message.
@@ -170,11 +170,12 @@ func (s *Stream) Close() error {
 	return s.link.end(s.channel)
 }
 
-// An end asks how many messages a stream has, which costs the broker next to nothing. Where its first message is, is looked up at
-// the begin, and when it has fewer messages than before: a reader costs the broker the more the more files the stream has.
+// An end asks how many messages a stream has, which costs the broker almost nothing. The offset of the first message is looked
+// up at the start, and whenever there are fewer messages than before: a reader costs the broker more the more files the stream
+// has.
 //
-// The broker also counts entries that no reader gets: each file but the first begins with one. And it counts from where the leader's
-// copy begins, while a reader gets the first message of the copy at its own broker. So after retention the end may be too high.
+// The broker also counts entries that no reader gets: each file but the first begins with one. It counts from the start of the
+// leader's copy, while a reader gets the first message of its own broker's copy. So after retention the end may be too high.
 type end struct {
 	link          *Link
 	queue         string
@@ -182,7 +183,7 @@ type end struct {
 	first, before int64
 }
 
-// End opens a channel for asking. The broker may ask the stream's leader, and wait for it without end.
+// End opens a channel for the requests. The broker may ask the stream's leader, and wait for it without end.
 func (l *Link) End(stream string) (bus.End, error) {
 	channel, err := l.loose()
 	if err != nil {
@@ -191,7 +192,7 @@ func (l *Link) End(stream string) (bus.End, error) {
 	return &end{link: l, queue: stream, channel: channel}, nil
 }
 
-// Offset is that of the last message, some seconds ago.
+// Offset returns the offset of the last message, some seconds ago.
 func (e *end) Offset() (int64, error) {
 	state, err := e.channel.QueueDeclarePassive(e.queue, true, false, false, false, nil)
 	if err != nil {
@@ -211,14 +212,14 @@ func (e *end) Offset() (int64, error) {
 
 func (e *end) last() int64 { return e.first + e.before - 1 }
 
-// AtMost corrects the offset from which the messages count.
+// AtMost corrects the offset from which messages are counted.
 func (e *end) AtMost(offset int64) {
 	if over := e.last() - offset; over > 0 {
 		e.first -= over
 	}
 }
 
-// First is the offset of the first message of a stream that has some.
+// First returns the offset of the first message of a non-empty stream.
 func (l *Link) First(queue string) (int64, error) {
 	stream, err := l.read(bus.Reading{Stream: queue, Window: 1, Brief: true})
 	if err != nil {

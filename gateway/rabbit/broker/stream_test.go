@@ -8,8 +8,8 @@ import (
 	"gateway/rabbit/bus"
 )
 
-// The end of a stream is asked for without a reader, but for the first message's place: that is looked up once, and again where
-// there are fewer messages than before.
+// A stream's end is found without a reader, except for the first message's offset, which is looked up once, and again if there
+// are fewer messages than before.
 func TestTheEndIsAskedForWithOneReader(t *testing.T) {
 	b := brokertest.Start(t)
 	b.Full = func(string) bool { return true }
@@ -33,7 +33,7 @@ func TestTheEndIsAskedForWithOneReader(t *testing.T) {
 	}
 }
 
-// Where the end was taken too high it is corrected, without a reader, until there are fewer messages than before.
+// An end that was too high is corrected without a reader, until there are fewer messages than before.
 func TestAnEndIsCorrected(t *testing.T) {
 	b := brokertest.Start(t)
 	b.Full = func(string) bool { return true }
@@ -49,7 +49,7 @@ func TestAnEndIsCorrected(t *testing.T) {
 		offset, atMost int64
 		readers        int
 	}{
-		{length: 52, offset: 91, atMost: 95, readers: 1}, // says nothing
+		{length: 52, offset: 91, atMost: 95, readers: 1}, // has no effect
 		{length: 52, offset: 91, atMost: 90, readers: 1},
 		{length: 52, offset: 90, atMost: 90, readers: 1},
 		{length: 53, offset: 91, atMost: 91, readers: 1},

@@ -1,5 +1,5 @@
-// Package brokertest is a broker for tests: it opens connections and channels, declares queues, confirms messages, and hands
-// each consumer the message that a test gives its queue.
+// Package brokertest is a broker for tests. It opens connections and channels, declares queues, confirms messages, and gives
+// each consumer the message that a test puts into its queue.
 package brokertest
 
 import (
@@ -12,31 +12,31 @@ import (
 	"testing"
 )
 
-// A Broker is one of them.
+// A Broker is a test broker. Its functions set what it does with a queue.
 type Broker struct {
 	Address string
-	// Confirms tells of a queue whether a message to it is confirmed.
+	// Confirms reports whether messages to a queue are confirmed.
 	Confirms func(queue string) bool
-	// Full tells of a queue whether its first consumer is handed a message.
+	// Full reports whether a queue's first consumer gets a message.
 	Full func(queue string) bool
-	// Other tells of a queue whether it was made with other arguments.
+	// Other reports whether a queue exists with other arguments.
 	Other func(queue string) bool
-	// Counts tells of a queue whether the broker knows how many messages it has; otherwise it tells nothing of it to who asks.
+	// Counts reports whether the broker answers requests for a queue's number of messages.
 	Counts func(queue string) bool
-	// Length is how many messages the broker says that a queue has.
+	// Length is the reported number of messages of a queue.
 	Length func(queue string) uint32
-	// Refuses tells of a queue whether it can't be read, as a stream without a copy at this broker.
+	// Refuses reports whether a queue can't be read, like a stream without a copy at this broker.
 	Refuses func(queue string) bool
-	// Ends tells of a queue whether its consumers are ended, as where it is deleted.
+	// Ends reports whether a queue's consumers are ended, as if it were deleted.
 	Ends func(queue string) bool
 
-	// Missing tells of a queue whether it isn't there.
+	// Missing reports whether a queue is missing.
 	Missing func(queue string) bool
-	// Dies tells of a queue whether who reads it has the connection ended, as where a quorum queue has no leader.
+	// Dies reports whether the connection of a queue's consumer is ended, as for a quorum queue without a leader.
 	Dies func(queue string) bool
-	// Stands tells of a queue whether a channel that has published to it stands still, and isn't closed either.
+	// Stands reports whether a channel that published to a queue hangs, and isn't closed.
 	Stands func(queue string) bool
-	// Nacks reports whether a queue takes no message, as a quorum queue without members.
+	// Nacks reports whether a queue rejects messages, like a quorum queue without members.
 	Nacks func(queue string) bool
 
 	mutex     sync.Mutex
@@ -55,7 +55,7 @@ func Start(t *testing.T) *Broker {
 	return b
 }
 
-// Silent is an address at which connections are taken, and nothing is said.
+// Silent returns an address that accepts connections and never answers.
 func Silent(t *testing.T) string {
 	return "amqp://" + listen(t, func(connection net.Conn) { io.Copy(io.Discard, connection) })
 }
@@ -82,28 +82,28 @@ func listen(t *testing.T, serve func(net.Conn)) string {
 	return listener.Addr().String()
 }
 
-// GivenUp are the tags of the consumers whose channels were closed.
+// GivenUp returns the tags of the consumers whose channels were closed.
 func (b *Broker) GivenUp() []string {
 	b.mutex.Lock()
 	defer b.mutex.Unlock()
 	return append([]string(nil), b.givenUp...)
 }
 
-// Published are the queues to which messages were published.
+// Published returns the queues to which messages were published.
 func (b *Broker) Published() []string {
 	b.mutex.Lock()
 	defer b.mutex.Unlock()
 	return append([]string(nil), b.published...)
 }
 
-// Deleted is which queues were deleted, in their order.
+// Deleted returns the deleted queues, in order.
 func (b *Broker) Deleted() []string {
 	b.mutex.Lock()
 	defer b.mutex.Unlock()
 	return append([]string(nil), b.deleted...)
 }
 
-// Consumed are the tags of the consumers that there were.
+// Consumed returns the tags of all consumers so far.
 func (b *Broker) Consumed() []string {
 	b.mutex.Lock()
 	defer b.mutex.Unlock()
@@ -117,25 +117,25 @@ const (
 	frameMethod = 1
 	frameHeader = 2
 	frameEnd    = 0xCE
-	noWait      = 16   // of the bits of a queue's declaration
-	hasHeaders  = 0x20 // of the first bits of a message's properties
+	noWait      = 16   // bit of a queue's declaration
+	hasHeaders  = 0x20 // bit of a message's properties
 )
 
 // A session is a connection.
 type session struct {
 	broker    *Broker
 	to        net.Conn
-	queues    map[uint16]string // of the message that comes on each channel
-	stands    map[uint16]bool   // the channels that stand still
+	queues    map[uint16]string // the queue of the message that is coming on each channel
+	hangs     map[uint16]bool   // the channels that hang
 	published map[uint16]uint64
 	delivered map[uint16]uint64
-	tags      map[uint16]string // of the consumer of each channel
+	tags      map[uint16]string // the consumer's tag of each channel
 }
 
 func (b *Broker) serve(connection net.Conn) {
 	from := bufio.NewReader(connection)
 	s := &session{broker: b, to: connection, queues: map[uint16]string{}, published: map[uint16]uint64{},
-		delivered: map[uint16]uint64{}, tags: map[uint16]string{}, stands: map[uint16]bool{}}
+		delivered: map[uint16]uint64{}, tags: map[uint16]string{}, hangs: map[uint16]bool{}}
 	if _, err := io.ReadFull(from, make([]byte, 8)); err != nil { // AMQP and its version
 		return
 	}
@@ -153,17 +153,17 @@ func (b *Broker) serve(connection net.Conn) {
 		switch head[0] {
 		case frameMethod:
 			s.take(channel, method{binary.BigEndian.Uint16(body), binary.BigEndian.Uint16(body[2:])}, body[4:])
-		case frameHeader: // the messages of these tests are empty
+		case frameHeader: // messages in these tests are empty
 			s.publish(channel)
 		}
 	}
 }
 
-// publish takes in that a message has come.
+// publish notes that a message has come.
 func (s *session) publish(channel uint16) {
 	queue := s.queues[channel]
 	s.published[channel]++
-	s.stands[channel] = s.broker.Stands(queue)
+	s.hangs[channel] = s.broker.Stands(queue)
 	s.broker.mutex.Lock()
 	s.broker.published = append(s.broker.published, queue)
 	s.broker.mutex.Unlock()
@@ -182,8 +182,8 @@ func (s *session) take(channel uint16, m method, rest []byte) {
 		s.send(0, method{10, 30}, []byte{0, 0, 0, 2, 0, 0, 0, 10})
 	case method{10, 40}, method{20, 10}: // a connection, a channel
 		s.send(channel, method{m.class, m.number + 1}, make([]byte, []int{1, 4}[m.class/10-1]))
-	case method{20, 40}: // the end of a channel, whose number may be used again
-		if s.stands[channel] {
+	case method{20, 40}: // the end of a channel, whose number may be reused
+		if s.hangs[channel] {
 			return
 		}
 		s.close(channel)
@@ -258,7 +258,7 @@ func (s *session) close(channel uint16) {
 	}
 }
 
-// FirstOffset is that of the message which a consumer is handed.
+// FirstOffset is the offset of the message that a consumer gets.
 const FirstOffset = 40
 
 func (s *session) deliver(channel uint16, tag, queue string) {
@@ -300,7 +300,7 @@ func number(value uint64) []byte {
 // prefix begins the name of each queue.
 const prefix = "desk.2."
 
-// Is tells of the queue of a partition whether it is that of this kind and number.
+// Is reports whether a queue belongs to a partition and has this kind.
 func Is(queue, kind, partition string) bool {
 	return strings.HasPrefix(queue, prefix+kind+"."+partition+".of.")
 }

@@ -1,6 +1,6 @@
-// Package bus is all that senders, owners and receivers know of what keeps their streams: appending with a confirm, reading from
-// an offset on, the end, and the claim of a name that gives an epoch. Package broker has it on RabbitMQ, and package memory in
-// memory, with a seeded scheduler. The comments say what a client of Kafka, with its transactions, would call in each place.
+// Package bus is what senders, owners and receivers know of the message system: appending with a confirm, reading from an
+// offset, the end of a stream, and claims of names, which give epochs. Package broker implements it on RabbitMQ, and package
+// memory in memory with a seeded scheduler. The comments name the equivalents in Kafka with transactions.
 package bus
 
 import (
@@ -10,20 +10,20 @@ import (
 	"time"
 )
 
-// A Bus is a way to the streams.
+// A Bus gives access to streams.
 //
 // Kafka: a cluster; each stream is a partition of a topic.
 type Bus interface {
-	// Connect opens a connection under a name that people are shown. The place with this address, if it isn't empty, is tried last.
+	// Connect opens a connection with a display name. The address last is tried last, unless it is empty.
 	//
-	// Kafka: the constructors of its clients, with client.id and bootstrap.servers.
+	// Kafka: its clients' constructors, with client.id and bootstrap.servers.
 	Connect(ctx context.Context, name, last string) (Link, error)
 	// Judge says what a failure of this bus means.
 	//
-	// Kafka: a RetriableException passes; UnknownTopicOrPartition is missing; those of authorization, RecordTooLarge and
-	// InvalidConfiguration do not pass; an abortable one aborts the transaction.
+	// Kafka: a RetriableException passes; UnknownTopicOrPartition is Missing; authorization errors, RecordTooLarge and
+	// InvalidConfiguration don't pass; an abortable one aborts the transaction.
 	Judge(failure error) Judgement
-	// Pause waits, but not beyond the context's end.
+	// Pause waits, until the context ends at most.
 	Pause(ctx context.Context, long time.Duration)
 }
 
@@ -32,23 +32,23 @@ type Judgement int
 
 // The judgements.
 const (
-	Passing   Judgement = iota // it may pass: the work is begun anew
-	Missing                    // a stream isn't there: somebody has to declare it
-	Refused                    // the user has no right to it
-	Doubted                    // the user may have no right to it: one such failure says nothing
-	Wrong                      // it can't be done as it is asked for
-	Untrusted                  // the certificate isn't trusted, at one of several brokers perhaps
+	Passing   Judgement = iota // it may pass: the work begins again
+	Missing                    // a stream is missing: somebody must declare it
+	Refused                    // the user lacks permission
+	Doubted                    // the user may lack permission: one such failure proves nothing
+	Wrong                      // it can't be done as requested
+	Untrusted                  // the certificate isn't trusted, perhaps at one of several brokers
 )
 
-// A Link is a connection. It fails as a whole: where an appender, a reader or a wait fails, all of it ends, and the work is
-// begun anew on another.
+// A Link is a connection. It fails as a whole: if an appender, a reader or a wait fails, all of it ends, and the work begins
+// again on another link.
 //
-// Kafka: a producer and consumers with one life; a fatal error of one ends the others.
+// Kafka: a producer and consumers with a common life; a fatal error of one ends the others.
 type Link interface {
-	// Appender opens a way to append.
+	// Appender opens an appender.
 	//
-	// Kafka: a KafkaProducer with acks=all, enable.idempotence and, of a named sender, its name as transactional.id. Our numbers of
-	// lines in the headers do what its sequence numbers do, and hold beyond one producer's life.
+	// Kafka: a KafkaProducer with acks=all, enable.idempotence and, for a named sender, its name as transactional.id. Our line
+	// numbers in the headers do what its sequence numbers do, and outlive one producer.
 	Appender() (Appender, error)
 	// Read reads a stream.
 	//
@@ -62,49 +62,50 @@ type Link interface {
 	//
 	// Kafka: endOffsets.
 	End(stream string) (End, error)
-	// Own waits until nobody owns one of these partitions, which it gives. The partition is owned until the link ends. Only speed
-	// hangs on it, and no answer: two owners append the same answers. Missing is told which partitions aren't declared.
+	// Own waits until one of these partitions is free, and returns it. The partition is owned until the link ends. Ownership
+	// affects only speed: two owners append the same answers. missing is called with the undeclared partitions.
 	//
-	// Kafka: a consumer group over the partitions of the log. Answers, and offsets by sendOffsetsToTransaction, are one transaction
-	// there; here each message of answers says up to which line it goes.
+	// Kafka: a consumer group over the log's partitions. Answers, and offsets by sendOffsetsToTransaction, are one transaction
+	// there; here each message of answers names its last line.
 	Own(ctx context.Context, partitions []Partition, missing func([]Partition)) (Partition, error)
-	// Address says where the link leads to.
+	// Address is where the link leads.
 	Address() string
-	// Done is closed once the link has ended, and Err is why.
+	// Done is closed once the link has ended; Err is why.
 	Done() <-chan struct{}
 	Err() error
-	// Fail ends the link for a reason, and Close in good order.
+	// Fail ends the link with a reason, Close cleanly.
 	Fail(reason error)
 	Close()
 }
 
-// An Appender appends messages. Their confirms come in the order of the messages.
+// An Appender appends messages. Their confirms come in the same order.
 type Appender interface {
-	// Append appends a message. It is in the stream for good once it is confirmed; until then it may be there or not, or come later.
+	// Append appends a message. Once confirmed it is in the stream for good; until then it may be there, be missing, or come
+	// later.
 	//
-	// Kafka: send. A transaction would begin before the first message of a batch, and end after its last by commitTransaction: then
-	// readers would see the batch as a whole, and later.
+	// Kafka: send. A transaction would begin before a batch's first message, and end after its last with commitTransaction:
+	// readers would then see the batch as a whole, and later.
 	Append(to Route, headers Headers, body []byte) error
-	// Open is how many messages are without a confirm.
+	// Open is the number of unconfirmed messages.
 	//
-	// Kafka: max.in.flight.requests.per.connection bounds it; a transaction counts its own.
+	// Kafka: max.in.flight.requests.per.connection limits it; a transaction counts its own.
 	Open() int
-	// Confirms has a value for each message, nil if it is in the stream. It is to be handed to Take.
+	// Confirms has a value for each message, nil if it is in the stream. Pass each to Take.
 	//
-	// Kafka: the callback of send. ProducerFencedException comes there: a newer producer has the name.
+	// Kafka: the callback of send. It gets ProducerFencedException if a newer producer has the name.
 	Confirms() <-chan error
 	Take(confirm error, open bool) error
 	// Settle waits until all messages are confirmed.
 	//
 	// Kafka: flush.
 	Settle() error
-	// Late says whether some message has waited for its confirm for too long.
+	// Late returns an error if a message has waited too long for its confirm.
 	//
-	// Kafka: delivery.timeout.ms, after which the callback has a TimeoutException and the transaction is aborted.
+	// Kafka: delivery.timeout.ms, after which the callback gets a TimeoutException and the transaction is aborted.
 	Late() error
-	// Close ends the appender. All messages are confirmed before.
+	// Close ends the appender, once all messages are confirmed.
 	//
-	// Kafka: close, behind commitTransaction.
+	// Kafka: close, after commitTransaction.
 	Close() error
 }
 
@@ -112,8 +113,8 @@ type Appender interface {
 type Reading struct {
 	Stream string
 	From   From
-	Window int  // how many messages may be on their way
-	Brief  bool // whether the reader is soon closed
+	Window int  // how many messages may be in flight
+	Brief  bool // whether the reader is closed soon
 }
 
 // A Reader reads a stream.
@@ -125,7 +126,7 @@ type Reader interface {
 	Ended() error
 	// Next waits for the next message.
 	//
-	// Kafka: poll, which hands over no message of a transaction that is open or was aborted.
+	// Kafka: poll, which returns no message of an open or aborted transaction.
 	Next() (Message, error)
 	// Close ends the reader.
 	//
@@ -135,34 +136,35 @@ type Reader interface {
 
 // An End knows where a stream ends.
 type End interface {
-	// Offset is that of the last message, some seconds ago, or -1 if it isn't known. It may be too high until AtMost corrects it.
+	// Offset is the offset of the last message, some seconds ago, or -1 if unknown. It may be too high until AtMost corrects
+	// it.
 	Offset() (int64, error)
-	// AtMost takes in that when Offset was asked last, no message was after this offset.
+	// AtMost notes that no message was after this offset when Offset was last called.
 	//
-	// Kafka: not needed, since endOffsets is exact.
+	// Kafka: not needed, as endOffsets is exact.
 	AtMost(offset int64)
 }
 
-// A From says where a reader of a stream begins.
+// A From is where a reader of a stream begins.
 type From struct {
 	Place  Where
 	Offset int64     // of At
 	Since  time.Time // of Since
 }
 
-// A Where is a kind of beginning.
+// A Where is a kind of From.
 type Where int
 
 // The kinds.
 const (
-	First Where = iota // with the first message that is left
-	Last               // with the last messages that were appended together
-	Next               // with what is appended from now on
-	At                 // with the message of an offset, or the first one after it that is left
-	Since              // with the first message since a time
+	First Where = iota // the first message that is left
+	Last               // the last messages that were appended together
+	Next               // what is appended from now on
+	At                 // the message at an offset, or the first one after it that is left
+	Since              // the first message since a time
 )
 
-// String says it in words.
+// String words it.
 func (f From) String() string {
 	switch f.Place {
 	case Last:
@@ -177,41 +179,41 @@ func (f From) String() string {
 	return "the first message that is left"
 }
 
-// FromOffset begins with the message of an offset.
+// FromOffset begins at the message with an offset.
 func FromOffset(offset int64) From { return From{Place: At, Offset: offset} }
 
-// Patience is how long a bus may take to do what it is asked for.
+// Patience is how long a bus may take for a request.
 const Patience = 30 * time.Second
 
-// ErrAway says that nothing can be reached that keeps the streams.
+// ErrAway means that no broker can be reached.
 var ErrAway = errors.New("no broker can be reached")
 
-// ErrMissing says what to do where a stream isn't there.
+// ErrMissing says what to do if a stream is missing.
 var ErrMissing = errors.New("desk partition --declare makes it, with the same " + PartitionsVariable)
 
-// Limits of what is on its way.
+// Limits of what is in flight.
 const (
-	// WindowBytes is how much may be on its way in one direction.
+	// WindowBytes limits the bytes in flight in one direction.
 	WindowBytes = 16 << 20
-	// MessageBytes is how much of several lines a message carries. A line that is longer has a message of its own.
+	// MessageBytes limits a message of several lines. A longer line has its own message.
 	MessageBytes = 256 << 10
-	// MessageLines is how many lines a message carries at most.
+	// MessageLines limits the lines of a message.
 	MessageLines = 2048
-	// MostOpen is how many messages of a stream may be on their way. With messages of at most a mebibyte, as the programs append
-	// them but for snapshots, these are 16 MiB.
+	// MostOpen limits a stream's messages in flight. The programs append messages of at most a mebibyte, except snapshots, so
+	// these are at most 16 MiB.
 	MostOpen = 16
 )
 
-// LineGather and AnswerGather are how long a message of lines, and one of answers, waits at most after the one before it, unless it is
-// full. What a message costs the brokers is most of what a line costs, so of lines that come one by one several share a message;
-// one that comes after a pause waits for nothing, nor does one where no other line joins those that wait.
+// LineGather and AnswerGather limit how long a message of lines, or of answers, waits after the one before it, unless it is
+// full. Most of a line's cost at the brokers is that of its message, so several single lines share one. A message after a pause
+// doesn't wait, nor does one that no other line joins.
 const (
 	LineGather   = 40 * time.Millisecond
 	AnswerGather = 10 * time.Millisecond
 )
 
-// OpenOf is how many messages of each of so many streams that are read at once may be on their way: of full messages of
-// several lines these are 16 MiB, and of each stream at least two.
+// OpenOf returns the messages in flight for each of several streams read at once: 16 MiB of full messages with several lines,
+// and at least two for each stream.
 func OpenOf(streams int) int {
 	open := WindowBytes / MessageBytes / streams
 	if open > MostOpen {

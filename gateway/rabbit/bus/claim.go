@@ -7,15 +7,15 @@ import (
 	"gateway/rabbit/ledger"
 )
 
-// A Claim is that of a name by one process. The stream Registry has the claims of all names. The place of a claim there is the
-// epoch of its process: of two processes with one name the later claim has the greater one, wherever else their lines meet.
+// A Claim is one process's claim of a name. The stream Registry has the claims of all names. A claim's place there is the epoch
+// of its process: of two processes with one name the later claim has the greater epoch, wherever else their lines meet.
 //
-// A process claims its name there before it claims it in any partition, and looks there after its last line was confirmed.
-// So where it finds no newer claim then, no partition has left out a line of it: a newer claim before that line would
-// have been in the registry before.
+// A process claims its name in the registry before any partition, and checks the registry after its last line is confirmed. If
+// it finds no newer claim then, no partition has skipped one of its lines: a newer claim before that line would have been in
+// the registry already.
 //
-// Kafka: the transactional.id. Its coordinator keeps the epochs, and each partition fences the older ones by itself; here each
-// partition's log has a claim of its own, and its owner and readers fence.
+// Kafka: the transactional.id. Its coordinator keeps the epochs, and each partition fences older ones by itself; here each
+// partition's log has its own claim, and its owner and readers fence.
 type Claim struct {
 	Epoch    int64
 	name     string
@@ -26,10 +26,10 @@ type Claim struct {
 // TokenHeader is the header by which a process finds its own message.
 const TokenHeader = "token"
 
-// A Superseded error says that a newer process has claimed the name.
+// A Superseded error means that a newer process has claimed the name.
 type Superseded struct {
 	Name  string
-	Epoch int64 // that of the newer process
+	Epoch int64 // the newer process's
 	Since time.Time
 }
 
@@ -37,9 +37,9 @@ func (s *Superseded) Error() string {
 	return fmt.Sprintf("another process sends as %q since %s", s.Name, s.Since.UTC().Format(time.RFC3339))
 }
 
-// ClaimName claims a name: from now on the process has the greatest epoch.
+// ClaimName claims a name, which gives the process the greatest epoch.
 //
-// Kafka: initTransactions. It ends what an older producer has begun, where our batches go on.
+// Kafka: initTransactions. It ends what an older producer has begun, while our batches continue.
 func ClaimName(link Link, name string) (*Claim, error) {
 	c, err := openClaim(link, name, From{Place: Last})
 	if err == nil {
@@ -51,7 +51,7 @@ func ClaimName(link Link, name string) (*Claim, error) {
 	return c, nil
 }
 
-// FindClaim goes on with the claim of this epoch, over another link.
+// FindClaim continues the claim with this epoch over another link.
 func FindClaim(link Link, name string, epoch int64) (*Claim, error) {
 	c, err := openClaim(link, name, FromOffset(offsetOf(epoch)))
 	if err != nil {
@@ -73,10 +73,10 @@ func openClaim(link Link, name string, from From) (*Claim, error) {
 	return &Claim{name: name, reader: reader, appender: appender}, nil
 }
 
-// offsetOf is the place of the claim of an epoch; 0 is no epoch.
+// offsetOf returns the place of the claim of an epoch; 0 is no epoch.
 func offsetOf(epoch int64) int64 { return epoch - 1 }
 
-// epochOf is the epoch of a claim.
+// epochOf returns the epoch of a claim.
 func epochOf(claim Message) int64 { return claim.Offset + 1 }
 
 // claim appends the claim, and waits for its place.
@@ -109,12 +109,12 @@ func (c *Claim) append(headers Headers) error {
 	return c.appender.Settle()
 }
 
-// Reader reads the registry; what comes is to be handed to Look.
+// Reader reads the registry; pass what arrives to Look.
 func (c *Claim) Reader() Reader { return c.reader }
 
-// Look takes in the next message of the registry. The error is *Superseded if it is a newer claim of the name.
+// Look takes the registry's next message. The error is *Superseded if it is a newer claim of the name.
 //
-// Kafka: ProducerFencedException, at the next call of the producer.
+// Kafka: ProducerFencedException, at the producer's next call.
 func (c *Claim) Look(message Message) error {
 	from, err := ReadOrigin(message)
 	if err == nil && from.Kind == ledger.Claim && from.Sender == c.name && epochOf(message) > c.Epoch {
@@ -123,7 +123,7 @@ func (c *Claim) Look(message Message) error {
 	return nil
 }
 
-// Check reads the registry up to its end. The error is *Superseded where there is a newer claim of the name.
+// Check reads the registry up to its end. The error is *Superseded if there is a newer claim of the name.
 func (c *Claim) Check() error {
 	token, err := NewMark()
 	if err != nil {

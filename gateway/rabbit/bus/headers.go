@@ -8,17 +8,17 @@ import (
 	"gateway/rabbit/ledger"
 )
 
-// MaximumSenderBytes is the length of a sender's name at most.
+// MaximumSenderBytes limits the length of a sender's name.
 const MaximumSenderBytes = 255
 
-// MarkHeader is the header of a message that carries nothing: its publisher reads a stream up to it, so that it has
-// read all that was there.
+// MarkHeader is the header of a message without content. Its publisher reads a stream up to it, to know that it has read
+// everything before.
 const MarkHeader = "mark"
 
-// MaximumBatchBytes is the length of a batch's id at most.
+// MaximumBatchBytes limits the length of a batch's id.
 const MaximumBatchBytes = 255
 
-// The headers of a message of a log. Its time stamp says when it was sent.
+// The headers of a log message. Its time stamp says when it was sent.
 const (
 	senderHeader = "sender"
 	namedHeader  = "named"
@@ -28,7 +28,7 @@ const (
 	modelsHeader = "models"
 )
 
-// The headers of a message of answers or of a snapshot.
+// The headers of a message with answers or a snapshot.
 const (
 	kindHeader        = "kind"
 	afterOffsetHeader = "after-offset"
@@ -42,30 +42,30 @@ const (
 	kindClose         = "close" // of a log
 )
 
-// The headers of the last snapshot of a partition: how many partitions there are after it.
+// The headers of a partition's last snapshot: the number of partitions after it.
 const (
 	closedEpochHeader      = "closed-epoch"
 	closedPartitionsHeader = "closed-partitions"
 )
 
-// ErrForeign tells that a message's topic or headers are not those that the programs write.
+// ErrForeign means that a message's topic or headers are not from our programs.
 var ErrForeign = errors.New("not from desk send")
 
-// OriginHeaders are the headers of a message of a log.
+// OriginHeaders returns the headers of a log message.
 func OriginHeaders(from ledger.Origin) Headers {
 	return Headers{kindHeader: string(from.Kind), senderHeader: from.Sender, namedHeader: from.Named,
 		epochHeader: from.Epoch, batchHeader: from.Batch, numberHeader: from.Number, modelsHeader: from.Models}
 }
 
-// IsSender says whether a sender may have this name: UTF-8 of 1 to MaximumSenderBytes bytes, as a snapshot can hold it.
+// IsSender reports whether a sender's name is valid: UTF-8 of 1 to MaximumSenderBytes bytes, which a snapshot can hold.
 func IsSender(name string) bool {
 	return len(name) > 0 && len(name) <= MaximumSenderBytes && utf8.ValidString(name)
 }
 
-// IsBatch says whether a batch may have this id: UTF-8 of at most MaximumBatchBytes bytes.
+// IsBatch reports whether a batch id is valid: UTF-8 of at most MaximumBatchBytes bytes.
 func IsBatch(id string) bool { return len(id) <= MaximumBatchBytes && utf8.ValidString(id) }
 
-// ReadOrigin reads the headers of a message of a log or of the registry.
+// ReadOrigin reads the headers of a message of a log or the registry.
 func ReadOrigin(message Message) (ledger.Origin, error) {
 	topic, headers := message.Topic(RequestsExchange), message.Headers
 	from := ledger.Origin{Sent: message.Sent, MayHaveModels: topic == TopicModels}
@@ -93,7 +93,7 @@ func ReadOrigin(message Message) (ledger.Origin, error) {
 	return from, nil
 }
 
-// number is a whole number, of whichever width a client's library has chosen.
+// number returns a whole number of any width, as client libraries differ.
 func number(value interface{}) (int64, bool) {
 	switch value := value.(type) {
 	case int64:
@@ -108,22 +108,22 @@ func number(value interface{}) (int64, bool) {
 	return 0, false
 }
 
-// A Part is what a message of the answers' stream says of itself.
+// A Part is what a message of the answer stream says about itself.
 type Part struct {
 	Snapshot bool
-	After    ledger.Place // the place of the last answer before; the headers don't tell the start
-	Upto     ledger.Place // answers: the place of the last; snapshot: all up to here is answered
-	More     bool         // answers: whether the message of the last has further lines
-	// SnapshotAt is an offset of the stream: the last snapshot before the message is there, or soon after. -1 says nothing.
+	After    ledger.Place // the place of the last answer before; the headers omit the start
+	Upto     ledger.Place // for answers the place of the last; for a snapshot all up to here is answered
+	More     bool         // for answers, whether the last one's message has more lines
+	// SnapshotAt is an offset of the stream: the last snapshot before the message is there or soon after. -1 means unknown.
 	SnapshotAt int64
-	// Closed is set in the last snapshot of a partition: these settings are after it.
+	// Closed is set in a partition's last snapshot: the settings after it.
 	Closed Settings
 }
 
-// IsFirst says of a snapshot whether it is that before the first line.
+// IsFirst reports whether a snapshot is the one before the first line.
 func (p Part) IsFirst() bool { return p.Snapshot && p.Upto == ledger.Start }
 
-// PartHeaders are the headers of a message of answers, or of a snapshot.
+// PartHeaders returns the headers of a message of answers, or of a snapshot.
 func PartHeaders(part Part) Headers {
 	headers := Headers{kindHeader: kindAnswers, snapshotAtHeader: part.SnapshotAt, moreHeader: part.More}
 	if part.Snapshot {
@@ -135,18 +135,18 @@ func PartHeaders(part Part) Headers {
 	if part.Upto != ledger.Start {
 		headers[offsetHeader], headers[indexHeader] = part.Upto.Offset, part.Upto.Index
 	}
-	if part.After != ledger.Start { // some libraries read no number below 0
+	if part.After != ledger.Start { // some libraries can't read negative numbers
 		headers[afterOffsetHeader], headers[afterIndexHeader] = part.After.Offset, part.After.Index
 	}
 	return headers
 }
 
-// PointerHeaders are the headers of a mark that says where the last snapshot is.
+// PointerHeaders returns the headers of a mark that points to the last snapshot.
 func PointerHeaders(snapshotAt int64) Headers {
 	return Headers{MarkHeader: "taken over", snapshotAtHeader: snapshotAt}
 }
 
-// SnapshotAt is what a message of the answers' stream says of where the last snapshot is, or -1.
+// SnapshotAt returns where a message of the answer stream says the last snapshot is, or -1.
 func SnapshotAt(message Message) int64 {
 	if at, is := number(message.Headers[snapshotAtHeader]); is {
 		return at
@@ -154,8 +154,7 @@ func SnapshotAt(message Message) int64 {
 	return -1
 }
 
-// ReadPart reads the headers of a message of the answers' stream. A mark is no part, and is told by is, as is what was published
-// under another topic.
+// ReadPart reads the headers of a message of the answer stream. is is false for marks and for messages under another topic.
 func ReadPart(message Message) (part Part, is bool, err error) {
 	headers := message.Headers
 	kind, _ := headers[kindHeader].(string)

@@ -65,7 +65,7 @@ func TestForeignHeaders(t *testing.T) {
 	}
 }
 
-// What was published at another exchange, or under another topic, counts for nothing.
+// Messages published at another exchange or under another topic don't count.
 func TestForeignTopics(t *testing.T) {
 	lines := OriginHeaders(ledger.Origin{Kind: ledger.Lines, Sender: "a"})
 	snapshot := PartHeaders(Part{Snapshot: true})

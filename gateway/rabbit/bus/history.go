@@ -12,43 +12,43 @@ import (
 	"gateway/rabbit/ledger"
 )
 
-// ErrNoSnapshot says that nothing is left that says how far a log is answered.
+// ErrNoSnapshot means that retention cut the answers, and how far a log is answered is unknown.
 var ErrNoSnapshot = errors.New("retention has cut the answers, and what is left has no snapshot that can be read: delete both " +
 	"streams of the partition, so that it begins anew")
 
-// A History is the last snapshot, and what is answered behind it.
+// A History is the last snapshot and the answers after it.
 type History struct {
-	Ledger  *ledger.Ledger  // as the snapshot says, or that of an empty log
-	Records []answer.Record // the answers behind it, in order
-	More    bool            // whether the message of the last line that is answered has further lines
-	// Messages is how many messages stand behind it.
+	Ledger  *ledger.Ledger  // from the snapshot, or that of an empty log
+	Records []answer.Record // the answers after it, in order
+	More    bool            // whether the message of the last answered line has more lines
+	// Messages is the number of messages after the snapshot.
 	Messages int
-	// Unread are the faults of the snapshots that could not be read. The one before each counts.
+	// Unread has the errors of unreadable snapshots. The one before each counts.
 	Unread []error
-	// At is the offset of the snapshot in the stream of answers, and End that of the last message that was read.
+	// At is the snapshot's offset in the answer stream, End that of the last message read.
 	At, End int64
-	// HasSnapshot says whether there is one. A partition of a later number of partitions has one before its first line.
+	// HasSnapshot means that there is one. A partition of a later number of partitions has one before its first line.
 	HasSnapshot bool
-	// Closed is set where the snapshot is the last one, since the log is closed: these settings are after it.
+	// Closed is set if the snapshot is the last one because the log is closed: the settings after it.
 	Closed  Settings
 	Sent    time.Time // when the snapshot was published
-	pointer int64     // where the messages that were read say that the last snapshot is, or -1
+	pointer int64     // where the messages read say the last snapshot is, or -1
 	keep    time.Duration
 	chain   ledger.Chain
-	found   bool // whether there is a snapshot, or the stream's beginning was read
+	found   bool // whether there is a snapshot, or the stream's start was read
 }
 
-// Upto is the place up to which all is answered.
+// Upto returns the last answered place.
 func (h *History) Upto() ledger.Place { return h.chain.Upto }
 
-// firstStep is how many messages are read back first, and step how many times more each time. A small snapshot is among
-// the first, and a large one among those of the second step, where messages of others are few.
+// firstStep is how many messages are first read back, step the growth of each further attempt. A small snapshot is among the
+// first, a large one among those of the second, if there are few other messages.
 const (
 	firstStep = 160
 	step      = 7
 )
 
-// NewMark is a name that no other mark has.
+// NewMark returns a unique mark.
 func NewMark() (string, error) {
 	var bytes [16]byte
 	if _, err := rand.Read(bytes[:]); err != nil {
@@ -57,24 +57,24 @@ func NewMark() (string, error) {
 	return hex.EncodeToString(bytes[:]), nil
 }
 
-// A Progress is told that a message was read, or by its name that a step is done.
+// A Progress is notified of each message read, and of each finished step by name.
 type Progress interface {
 	Moved()
 	Passed(step string)
 }
 
-// HistoryOptions say which stream of answers is read, and how.
+// HistoryOptions says which answer stream is read, and how.
 type HistoryOptions struct {
 	Link      Link
 	Partition Partition
-	Open      int           // how many messages are on their way at a time
-	Keep      time.Duration // how long named senders are known after their last message
+	Open      int           // how many messages are in flight
+	Keep      time.Duration // how long named senders are remembered after their last message
 	Progress  Progress
 }
 
-// ReadHistory publishes a mark in the stream, and reads the stream up to it from the last snapshot on: it begins with the
-// last messages, which say where that is. If they are marks alone, it goes further and further back. So it takes as long as the
-// way from the last snapshot is, whatever is before it.
+// ReadHistory publishes a mark in the stream, and reads the stream from its last snapshot to the mark. It begins with the last
+// messages, which point to the snapshot. If these are only marks, it goes further and further back. So the time depends on the
+// distance to the last snapshot, not on what is before it.
 func ReadHistory(options HistoryOptions, publisher Appender) (*History, error) {
 	mark, err := NewMark()
 	if err != nil {
@@ -97,7 +97,7 @@ func ReadHistory(options HistoryOptions, publisher Appender) (*History, error) {
 	return h, publisher.Settle()
 }
 
-// LookAtHistory is ReadHistory for who may publish nothing in the stream. It reads up to a message that was there at its begin.
+// LookAtHistory is ReadHistory without publishing. It reads up to a message that was there at its start.
 func LookAtHistory(options HistoryOptions) (*History, error) {
 	r := newHistoryReader(options)
 	end := int64(-1)
@@ -122,7 +122,7 @@ func (unwatched) Passed(string) {}
 type historyReader struct {
 	HistoryOptions
 	queue string
-	ends  func(Message) bool // whether it is the last message that is read
+	ends  func(Message) bool // whether it is the last message to read
 }
 
 func newHistoryReader(options HistoryOptions) *historyReader {
@@ -132,22 +132,21 @@ func newHistoryReader(options HistoryOptions) *historyReader {
 	return &historyReader{HistoryOptions: options, queue: options.Partition.Queue(Answers)}
 }
 
-// begin begins to read the last messages.
+// begin starts to read the last messages.
 func (r *historyReader) begin() (Reader, error) {
 	stream, err := r.Link.Read(Reading{Stream: r.queue, From: From{Place: Last}, Window: r.Open})
 	r.Progress.Passed("its end is read from")
 	return stream, err
 }
 
-// read reads the last messages, and then from where they say that the last snapshot is, or further and further back, until
-// there is a snapshot.
+// read reads the last messages, and then from the snapshot they point to, or further and further back until there is one.
 func (r *historyReader) read(stream Reader) (*History, error) {
 	h, end, err := r.pass(stream, -1)
 	r.Progress.Passed("the end is there")
 	back := int64(firstStep)
 	for first := true; err == nil && (!h.found || first && h.mayBeLate()); first = false {
 		from := h.pointer
-		if !first || from < end-back { // the broker takes offsets for itself, so the pointer may be far too low
+		if !first || from < end-back { // the broker uses offsets itself, so the pointer may be far too low
 			from, back = end-back, back*step
 		}
 		if from < 0 {
@@ -165,12 +164,12 @@ func (r *historyReader) read(stream Reader) (*History, error) {
 	return h, nil
 }
 
-// mayBeLate says whether an owner that was too late may have published the snapshot that was found: the messages point to one
-// before it, which may reach further, or to a snapshot between them that does.
+// mayBeLate reports whether the snapshot may be from an owner that was too late: the messages point to one before it, which may
+// reach further, or to a snapshot between them that does.
 func (h *History) mayBeLate() bool { return h.pointer >= 0 && h.pointer < h.At }
 
-// pass reads the stream up to the last message that is to be read, whose offset it gives. It was begun at the offset from, or
-// at the last messages if that is negative.
+// pass reads the stream up to the last message to read, and returns its offset. It began at the offset from, or at the last
+// messages if that is negative.
 func (r *historyReader) pass(stream Reader, from int64) (*History, int64, error) {
 	h := NewHistory(false, r.Keep)
 	cut := false
@@ -202,7 +201,7 @@ func (r *historyReader) pass(stream Reader, from int64) (*History, int64, error)
 	}
 }
 
-// NewHistory is a history without a message, at the beginning of a stream or somewhere in it. Named senders are known for so long
+// NewHistory returns a history without messages, at a stream's beginning or within it. Named senders are remembered for keep
 // after their last message.
 func NewHistory(beginning bool, keep time.Duration) *History {
 	h := &History{Ledger: ledger.New(keep), keep: keep, found: beginning, pointer: -1}
@@ -212,7 +211,7 @@ func NewHistory(beginning bool, keep time.Duration) *History {
 	return h
 }
 
-// Take takes in the next message of the stream. Before a snapshot is found, answers say nothing.
+// Take takes the stream's next message. Before a snapshot is found, answers are ignored.
 func (h *History) Take(message Message) error {
 	h.Messages++
 	if at := SnapshotAt(message); at >= 0 {
@@ -242,15 +241,15 @@ func (h *History) Take(message Message) error {
 	return nil
 }
 
-// takeSnapshot takes a snapshot in, where it reaches further than the one before. That before the first line may come late, behind
-// others, so it counts where the stream is read from its beginning.
+// takeSnapshot takes a snapshot that reaches further than the one before. The one before the first line may come late, so it
+// counts if the stream is read from its beginning.
 func (h *History) takeSnapshot(part Part, message Message) error {
 	isNew := h.Ledger.Place.Before(part.Upto) || part.IsFirst() && !h.HasSnapshot && h.chain.Upto == ledger.Start
 	if h.found && !isNew || !h.found && part.IsFirst() {
 		return nil
 	}
 	l, err := ledger.Read(message.Body, h.keep)
-	if err != nil { // the snapshot before it counts, which may stand further back
+	if err != nil { // the snapshot before it counts, which may be further back
 		h.Unread = append(h.Unread, err)
 		return nil
 	}
@@ -258,12 +257,12 @@ func (h *History) takeSnapshot(part Part, message Message) error {
 	if h.chain.Reach(part.Upto); h.chain.Upto == part.Upto {
 		h.More = l.Part
 	}
-	behind := h.Records[:0]
+	after := h.Records[:0]
 	for _, record := range h.Records {
 		if l.Place.Before(record.Place) {
-			behind = append(behind, record)
+			after = append(after, record)
 		}
 	}
-	h.Records = behind
+	h.Records = after
 	return nil
 }

@@ -7,13 +7,13 @@ import (
 	"gateway/rabbit/ledger"
 )
 
-// of is a message of the answers' stream.
+// of returns a message of the answer stream.
 func of(topic Topic, headers Headers, body []byte) Message {
 	return Message{At: Settings{Partitions: 1}.Route(AnswersExchange, topic, 0), Headers: headers, Body: body}
 }
 
-// A history knows from answers and marks where the last snapshot is, leaves out a snapshot that can't be read, and takes
-// answers from the one before it.
+// A history finds the last snapshot from answers and marks, skips an unreadable snapshot, and takes answers from the one before
+// it.
 func TestHistory(t *testing.T) {
 	l := ledger.New(0)
 	l.Skip(ledger.Place{Offset: 3})

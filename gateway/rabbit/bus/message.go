@@ -5,10 +5,10 @@ import (
 	"time"
 )
 
-// Headers are those of a message. Their values are texts, whole numbers and truths.
+// Headers are a message's headers. Their values are strings, integers and booleans.
 type Headers map[string]interface{}
 
-// A Message is one of a stream.
+// A Message is a message of a stream.
 type Message struct {
 	Offset  int64
 	At      Route // where it was appended
@@ -17,7 +17,7 @@ type Message struct {
 	Sent    time.Time
 }
 
-// Topic is the topic of a message that was appended at this exchange, and empty of any other.
+// Topic returns the topic of a message that was appended at this exchange, or "".
 func (m Message) Topic(exchange string) Topic {
 	if m.At.Exchange != exchange {
 		return ""

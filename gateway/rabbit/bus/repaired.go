@@ -2,8 +2,8 @@ package bus
 
 import "gateway/rabbit/ledger"
 
-// Repaired is the state of a partition whose log is lost, behind a gap after its last answer. What the log had since the last
-// snapshot is not known but for the answers: a model among it is lost, and a batch that was open can't be sent again.
+// Repaired returns the state of a partition with a lost log, after a gap after its last answer. Of the log since the last
+// snapshot only the answers are known: a model in it is lost, and an open batch can't be sent again.
 func Repaired(h *History, gap ledger.Gap) *ledger.Ledger {
 	for _, record := range h.Records {
 		h.Ledger.SettleLost(record.Client, record.Outcome)

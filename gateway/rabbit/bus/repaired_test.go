@@ -7,8 +7,8 @@ import (
 	"gateway/rabbit/ledger"
 )
 
-// A partition whose log is lost goes on behind the gap, with the tickets of its answers. A model that was answered since the last
-// snapshot is lost, a batch that was open can't be sent again, and one that had ended is known.
+// A partition with a lost log continues after the gap, with the tickets of its answers. A model answered since the last
+// snapshot is lost, an open batch can't be sent again, and an ended one is known.
 func TestWhatIsKnownWithoutALog(t *testing.T) {
 	l := ledger.New(0)
 	for _, batch := range []string{"ended", "open"} {

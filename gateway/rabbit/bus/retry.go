@@ -13,30 +13,30 @@ import (
 // Pauses between two attempts.
 const (
 	firstPause   = 250 * time.Millisecond
-	longestPause = 10 * time.Second // where no broker is reached
-	reachedPause = 2 * time.Second  // the longest where one is
-	// steady is how long work must have lasted for its failure to count as the first again.
+	longestPause = 10 * time.Second // if no broker is reached
+	reachedPause = 2 * time.Second  // the longest if one is
+	// steady is how long work must last before its failure counts as the first again.
 	steady = 30 * time.Second
 )
 
-// each is how many failures in a row there are from one that is told to the next.
+// each is how many failures in a row there are between two reports.
 const each = 100
 
-// A Final error is not tried again: what it says has to be done first.
+// A Final error is not retried: what it says must be done first.
 type Final struct{ Reason error }
 
 func (f *Final) Error() string { return f.Reason.Error() }
 
 func (f *Final) Unwrap() error { return f.Reason }
 
-// A pace says how long to wait after a failure: twice as long each time. A pause that has grown while no broker was
-// reached says nothing of what fails at a broker, nor the other way round.
+// A pace says how long to wait after a failure: twice as long each time. Pauses without a reachable broker, and pauses after
+// failures at one, grow independently.
 type pace struct {
 	away bool
 	next time.Duration
 }
 
-// pause is how long to wait at most after work that lasted so long.
+// pause returns the longest wait after work that lasted this long.
 func (p *pace) pause(failure error, lasted time.Duration) time.Duration {
 	away, longest := errors.Is(failure, ErrAway), reachedPause
 	if away {
@@ -52,9 +52,9 @@ func (p *pace) pause(failure error, lasted time.Duration) time.Duration {
 	return pause
 }
 
-// Again does the work on a bus until it ends without an error or with a final one, the context ends, or the bus says that it can't
-// be done: the user has no right to it, or what is asked for is wrong. After a failure it waits, at most twice as long each time: up
-// to 10 s where no broker is reached, and up to 2 s where one is. The first failure and each hundredth in a row are told.
+// Again does the work on a bus until it ends without an error or with a final one, the context ends, or the bus says that it
+// can't be done: the user lacks permission, or the request is wrong. After a failure it waits, at most twice as long each time:
+// up to 10 s if no broker is reached, and up to 2 s if one is. It reports the first failure in a row and each hundredth.
 func Again(ctx context.Context, on Bus, log *logs.Log, work func(ctx context.Context) error) error {
 	var pace pace
 	var doubts doubts
@@ -79,7 +79,7 @@ func Again(ctx context.Context, on Bus, log *logs.Log, work func(ctx context.Con
 			log.Warning("failure %d in a row: %v; trying again", failures, err)
 		}
 		pause := pace.pause(err, lasted)
-		// Not all come back at once.
+		// Not all return at once.
 		on.Pause(ctx, pause/2+time.Duration(rand.Int63n(int64(pause/2))))
 		if ctx.Err() != nil {
 			return ctx.Err()
@@ -87,13 +87,13 @@ func Again(ctx context.Context, on Bus, log *logs.Log, work func(ctx context.Con
 	}
 }
 
-// doubtful is how often in a row a right or a certificate may be doubted.
+// doubtful is how often in a row a permission or certificate may be doubted.
 const doubtful = 5
 
-// doubts counts how often in a row one was.
+// A doubts counts doubted failures in a row.
 type doubts struct{ count int }
 
-// final is the failure as a final one, if it can't pass.
+// final returns the failure as a final one if it can't pass.
 func (d *doubts) final(is Judgement, failure error) error {
 	switch is {
 	case Refused, Wrong:
@@ -105,11 +105,11 @@ func (d *doubts) final(is Judgement, failure error) error {
 		d.count = 0
 		return nil
 	}
-	return &Final{is.told(failure)}
+	return &Final{is.withAdvice(failure)}
 }
 
-// told is a failure that can't pass, and what to do.
-func (j Judgement) told(failure error) error {
+// withAdvice returns a failure that can't pass, with what to do.
+func (j Judgement) withAdvice(failure error) error {
 	switch j {
 	case Wrong:
 		return fmt.Errorf("the broker can't do this: %w", failure)

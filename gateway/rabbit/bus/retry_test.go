@@ -7,7 +7,7 @@ import (
 	"time"
 )
 
-// Pauses grow to 10 s while no broker is there, and begin anew, and grow to 2 s, once one is reached.
+// Pauses grow to 10 s while no broker is there, and from the start to 2 s once one is reached.
 func TestPauses(t *testing.T) {
 	var p pace
 	away, other := fmt.Errorf("%w: refused", ErrAway), errors.New("a channel ended")
@@ -35,7 +35,7 @@ func TestPauses(t *testing.T) {
 	}
 }
 
-// What can't pass is final: at once, or where it is doubted five times in a row.
+// What can't pass is final: at once, or if it is doubted five times in a row.
 func TestWhatIsFinal(t *testing.T) {
 	failure := errors.New("no")
 	for is, due := range map[Judgement]int{Refused: 1, Wrong: 1, Doubted: doubtful, Untrusted: doubtful} {

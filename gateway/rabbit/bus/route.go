@@ -2,26 +2,26 @@ package bus
 
 import "fmt"
 
-// The exchanges. Both have the type topic, so that the broker's permissions say who may publish what, and each message that is
-// read has the exchange and the topic under which it was published: what has others counts for nothing.
+// The exchanges. Both are topic exchanges, so the broker's permissions say who may publish what. Each message read has the
+// exchange and topic under which it was published; messages with others don't count.
 const (
-	RequestsExchange = prefix + "requests" // leads to the logs and to the registry
-	AnswersExchange  = prefix + "answers"  // leads to the streams of answers and to the leases
+	RequestsExchange = prefix + "requests" // leads to the logs and the registry
+	AnswersExchange  = prefix + "answers"  // leads to the answer streams and the leases
 )
 
 // A Topic says what a message is. A routing key begins with it.
 type Topic string
 
-// The topics of the exchange of requests, of the exchange of answers, and of both.
+// The topics of the request exchange, of the answer exchange, and of both.
 const (
 	TopicLines   Topic = "lines"   // requests, claims of names, ends of batches
 	TopicModels  Topic = "models"  // lines with models, and requests among them
 	TopicSenders Topic = "senders" // the registry, which has no partition
-	TopicScale   Topic = "scale"   // how many partitions there are
-	TopicLooks   Topic = "looks"   // of who looks at that: it carries nothing. Senders may publish it, and so it is none of the marks
+	TopicScale   Topic = "scale"   // the number of partitions
+	TopicLooks   Topic = "looks"   // marks without content from whoever reads the scale stream. Senders may publish it, so it is not TopicMarks
 	TopicAnswers Topic = "answers" // answers and snapshots
 	TopicLease   Topic = "lease"
-	TopicMarks   Topic = "marks" // messages that carry nothing
+	TopicMarks   Topic = "marks" // messages without content
 )
 
 // A Route is where a message is published.
@@ -30,7 +30,7 @@ type Route struct{ Exchange, Key string }
 // RegistryRoute leads to the registry.
 var RegistryRoute = Route{RequestsExchange, string(TopicSenders)}
 
-// Route is where messages of a topic are published for a partition.
+// Route returns where messages of a topic are published for a partition.
 func (s Settings) Route(exchange string, topic Topic, partition int) Route {
 	return Route{exchange, fmt.Sprintf("%s.%s", topic, s.name(partition))}
 }
@@ -41,7 +41,7 @@ type Binding struct {
 	Route Route
 }
 
-// Bindings are those of a partition, and of the registry.
+// Bindings returns the bindings of a partition, and of the registry.
 func (s Settings) Bindings(partition int) []Binding {
 	of := func(kind Kind, exchange string, topic Topic) Binding {
 		return Binding{s.Queue(kind, partition), s.Route(exchange, topic, partition)}

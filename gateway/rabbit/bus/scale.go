@@ -6,10 +6,11 @@ import (
 	"strings"
 )
 
-// Scale is the stream that says how many partitions there are. Retention must not cut it.
+// Scale is the stream with the number of partitions. Retention must not cut it.
 const Scale = prefix + "scale"
 
-// ScaleRoute leads to it, and so does LookRoute, for marks of who looks at it: a mark says nothing, and what is before it was there.
+// ScaleRoute and LookRoute lead to it. LookRoute is for marks of its readers: a mark says nothing, but everything before it has
+// been read.
 var (
 	ScaleRoute = Route{RequestsExchange, string(TopicScale)}
 	LookRoute  = Route{RequestsExchange, string(TopicLooks)}
@@ -17,10 +18,10 @@ var (
 
 // The kinds of its records.
 const (
-	scaleDeclared = "declared" // so many partitions were declared, where nothing was before
-	scaleBegin    = "begin"    // a change to so many partitions begins
+	scaleDeclared = "declared" // this many partitions were declared, with none before
+	scaleBegin    = "begin"    // a change to this many partitions begins
 	scaleDone     = "done"     // the change to this epoch is done
-	scaleState    = "state"    // what all before an offset say, for who reads only what follows
+	scaleState    = "state"    // what all records before an offset say, for readers of the rest
 )
 
 // The headers of its records.
@@ -31,28 +32,28 @@ const (
 	uptoHeader       = "upto"
 )
 
-// A Scaling is what the records of the stream say, one after the other. Each program that has read them up to the same place
-// knows the same: of two changes that are begun at once the first one counts.
+// A Scaling is what the stream's records say, one after another. Programs that have read up to the same place know the same: of
+// two changes begun at once the first counts.
 type Scaling struct {
 	All  []Settings // each number of partitions that counts, with its epoch, the newest last
-	Open bool       // whether the change to the newest is not done
-	next int64      // the offset after the last message that was read
+	Open bool       // whether the newest change is not done
+	next int64      // the offset after the last message read
 }
 
-// DeclaredHeaders are those of the first record.
+// DeclaredHeaders returns the headers of the first record.
 func DeclaredHeaders(partitions int) Headers {
 	return Headers{kindHeader: scaleDeclared, partitionsHeader: int64(partitions)}
 }
 
-// BeginHeaders are those of a record that begins a change. It has the epoch, so that a copy that comes late begins no other one.
+// BeginHeaders returns the headers of a record that begins a change. It has the epoch, so a late copy begins no other one.
 func BeginHeaders(to Settings) Headers {
 	return Headers{kindHeader: scaleBegin, epochHeader: to.Epoch, partitionsHeader: int64(to.Partitions)}
 }
 
-// DoneHeaders are those of a record by which a change is done.
+// DoneHeaders returns the headers of a record that ends a change.
 func DoneHeaders(epoch int64) Headers { return Headers{kindHeader: scaleDone, epochHeader: epoch} }
 
-// StateHeaders are those of a record of what all messages say that were read.
+// StateHeaders returns the headers of a record with what all messages read say.
 func StateHeaders(s Scaling) Headers {
 	counts := make([]string, len(s.All))
 	for at, settings := range s.All {
@@ -80,7 +81,7 @@ func readState(message Message) (s Scaling, is bool) {
 	return s, isBool && isOffset && len(s.All) > 0
 }
 
-// Newest is the newest number of partitions, and says whether one is known.
+// Newest returns the newest number of partitions, if known.
 func (s *Scaling) Newest() (Settings, bool) {
 	if len(s.All) == 0 {
 		return Settings{}, false
@@ -88,7 +89,7 @@ func (s *Scaling) Newest() (Settings, bool) {
 	return s.All[len(s.All)-1], true
 }
 
-// Before is the number of partitions before an epoch.
+// Before returns the number of partitions before an epoch.
 func (s *Scaling) Before(epoch int64) (Settings, bool) {
 	if epoch < 1 || epoch >= int64(len(s.All)) {
 		return Settings{}, false
@@ -96,7 +97,7 @@ func (s *Scaling) Before(epoch int64) (Settings, bool) {
 	return s.All[epoch-1], true
 }
 
-// Take takes in the next message of the stream, and says whether it counts.
+// Take takes the stream's next message, and reports whether it counts.
 func (s *Scaling) Take(message Message) bool {
 	s.next = message.Offset + 1
 	if message.Topic(RequestsExchange) != TopicScale {
@@ -120,13 +121,13 @@ func (s *Scaling) Take(message Message) bool {
 	return true
 }
 
-// CloseHeaders are those of the message by which a log ends: its further lines don't count. From now on there are partitions of these
-// settings. It is published under the topic of marks, under which no sender may publish.
+// CloseHeaders returns the headers of the message that ends a log: later lines don't count, and these settings apply. It is
+// published under the topic of marks, which senders may not use.
 func CloseHeaders(to Settings) Headers {
 	return Headers{kindHeader: kindClose, epochHeader: to.Epoch, partitionsHeader: int64(to.Partitions)}
 }
 
-// ReadClose says whether a message closes a log of these settings, and what is after it.
+// ReadClose reports whether a message closes a log of these settings, and returns what is after it.
 func ReadClose(message Message, of Settings) (to Settings, is bool) {
 	kind, _ := message.Headers[kindHeader].(string)
 	if message.Topic(RequestsExchange) != TopicMarks || kind != kindClose {
@@ -143,8 +144,8 @@ func settingsOf(headers Headers, epochName, partitionsName string) (Settings, bo
 	return Settings{Partitions: int(partitions), Epoch: epoch}, isEpoch && isCount && partitions >= 1 && partitions <= MaximumPartitions
 }
 
-// Sources are the partitions of before whose keys go, in part at least, to a partition of after: a key's number is the same
-// in both but for the divisor, so those whose numbers are the same by what both divisors have in common.
+// Sources returns the partitions of before that share keys with a partition of after. A key's number is the same in both but
+// for the divisor, so these are the partitions that agree modulo the divisors' common divisor.
 func Sources(before, after Settings, partition int) []int {
 	common := before.Partitions
 	for rest := after.Partitions; rest != 0; {
@@ -157,7 +158,7 @@ func Sources(before, after Settings, partition int) []int {
 	return sources
 }
 
-// A Rescaled error says that there is another number of partitions now.
+// A Rescaled error means that there is another number of partitions now.
 type Rescaled struct{ To Settings }
 
 func (r *Rescaled) Error() string {

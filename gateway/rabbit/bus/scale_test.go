@@ -7,7 +7,7 @@ import (
 	"testing"
 )
 
-// Of changes that are begun at once the first one counts, and a record that doesn't fit changes nothing.
+// Of changes begun at once the first counts, and a record that doesn't fit changes nothing.
 func TestScaling(t *testing.T) {
 	var s Scaling
 	for step, c := range []struct {
@@ -47,7 +47,7 @@ func TestScaling(t *testing.T) {
 	}
 }
 
-// A partition has the sources that its keys had, and no others.
+// A partition's sources are those that had its keys.
 func TestSources(t *testing.T) {
 	for _, c := range [][2]int{{2, 4}, {4, 2}, {1, 3}, {3, 1}, {3, 5}, {6, 4}, {4, 4}} {
 		before, after := Settings{Partitions: c[0]}, Settings{Partitions: c[1], Epoch: 1}
@@ -74,7 +74,7 @@ func TestSources(t *testing.T) {
 	}
 }
 
-// Each epoch has streams of its own; those of the first have the names of before there were epochs.
+// Each epoch has its own streams; the first one's names are those from before epochs.
 func TestNamesOfEpochs(t *testing.T) {
 	first, third := Settings{Partitions: 2}, Settings{Partitions: 2, Epoch: 2}
 	for got, want := range map[string]string{
@@ -87,7 +87,7 @@ func TestNamesOfEpochs(t *testing.T) {
 	}
 }
 
-// What a sender may publish closes no log and changes no number of partitions, also where further routing keys lead it there.
+// What a sender may publish closes no log and changes no number of partitions, even if more routing keys lead there.
 func TestWhatASenderPublishesChangesNoNumber(t *testing.T) {
 	of, to := Settings{Partitions: 2}, Settings{Partitions: 4, Epoch: 1}
 	for _, route := range []Route{LookRoute, RegistryRoute, of.Route(RequestsExchange, TopicLines, 0), of.Route(RequestsExchange, TopicModels, 0)} {

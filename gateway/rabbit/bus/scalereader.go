@@ -2,29 +2,29 @@ package bus
 
 import "math/rand"
 
-// scaleOpen is how many messages of the stream of how many partitions there are may be on their way.
+// scaleOpen limits the scale stream's messages in flight.
 const scaleOpen = 512
 
-// Each look at the stream leaves a mark in it. So that a look costs the same however many there were, owners write down what all before
-// says, after stateAfter to twice as many messages, and who looks begins to read scaleBack messages before the end. Where no such record
-// is among these, as without an owner for long, all is read.
+// Each look at the stream leaves a mark in it. To keep looks equally cheap, owners write down what everything before says,
+// after stateAfter to twice as many messages, and looks begin scaleBack messages before the end. If no such record is among
+// these, as after a long time without an owner, all is read.
 const (
 	stateAfter = 250
 	scaleBack  = 4 * stateAfter
 )
 
-// A ScaleReader has read that stream up to its end, some moments ago. What arrives later is to be handed to Take.
+// A ScaleReader has read that stream up to its recent end. Pass what arrives later to Take.
 type ScaleReader struct {
 	Scaling
 	reader Reader
 	from   int64     // the offset from which it reads
 	known  bool      // whether it knows what is before
-	early  []Message // records that were read while it didn't
-	stated int64     // the offset up to which the newest record of what was before says it
-	after  int64     // after how many messages more it is written down
+	early  []Message // records read while it didn't
+	stated int64     // the offset up to which the newest state record reaches
+	after  int64     // after how many more messages it is written down
 }
 
-// ReadScale reads the stream that says how many partitions there are.
+// ReadScale reads the stream with the number of partitions.
 func ReadScale(link Link) (*ScaleReader, error) {
 	last, err := lastOfScale(link)
 	if err != nil {
@@ -37,7 +37,7 @@ func ReadScale(link Link) (*ScaleReader, error) {
 	return readScale(link, end, func(message Message) bool { return message.Offset >= end })
 }
 
-// LookAtScale reads all that is in the stream by now, after what is known: it marks the end.
+// LookAtScale reads the whole stream so far, after what is known: it marks the end.
 func LookAtScale(link Link, known Scaling) (*Scaling, error) {
 	if known.next > 0 {
 		return lookFrom(link, known)
@@ -77,7 +77,7 @@ func lookFrom(link Link, known Scaling) (*Scaling, error) {
 	return &r.Scaling, r.reader.Close()
 }
 
-// markScale marks the end of the stream, and gives what knows the mark.
+// markScale marks the stream's end, and returns what recognizes the mark.
 func markScale(link Link) (isMark func(Message) bool, err error) {
 	mark, err := NewMark()
 	if err != nil {
@@ -96,12 +96,12 @@ func markScale(link Link) (isMark func(Message) bool, err error) {
 	return func(message Message) bool { return message.Headers[MarkHeader] == mark }, publisher.Close()
 }
 
-// lastOfScale begins to read the last messages.
+// lastOfScale starts to read the last messages.
 func lastOfScale(link Link) (Reader, error) {
 	return link.Read(Reading{Stream: Scale, From: From{Place: Last}, Window: MostOpen, Brief: true})
 }
 
-// endOf is the offset of one of the last messages.
+// endOf returns the offset of one of the last messages.
 func endOf(last Reader) (int64, error) {
 	message, err := last.Next()
 	if err != nil {
@@ -110,7 +110,7 @@ func endOf(last Reader) (int64, error) {
 	return message.Offset, last.Close()
 }
 
-// readScale reads the end of the stream up to a message, and all of it where that doesn't say what was before.
+// readScale reads the stream's end up to a message, or all of it if that doesn't say what was before.
 func readScale(link Link, end int64, isLast func(Message) bool) (*ScaleReader, error) {
 	if from := end - scaleBack; from > 0 {
 		r := &ScaleReader{from: from, after: keepAfter()}
@@ -152,7 +152,7 @@ func (r *ScaleReader) readTo(isLast func(Message) bool) error {
 	}
 }
 
-// Take takes in the next message of the stream, and says whether it counts.
+// Take takes the stream's next message, and reports whether it counts.
 func (r *ScaleReader) Take(message Message) bool {
 	state, is := readState(message)
 	if is && state.next > r.stated {
@@ -171,7 +171,7 @@ func (r *ScaleReader) Take(message Message) bool {
 	return false
 }
 
-// begin takes in what all messages before an offset say. Those after it were read.
+// begin takes what all messages before an offset say. Those after it were read.
 func (r *ScaleReader) begin(state Scaling) {
 	upto := state.next
 	r.Scaling, r.known = state, true
@@ -183,13 +183,13 @@ func (r *ScaleReader) begin(state Scaling) {
 	r.early = nil
 }
 
-// isLong says whether what the stream says is to be written down: so much follows the newest record that did.
+// isLong reports whether it is time to write down the state: enough messages follow the newest state record.
 func (r *ScaleReader) isLong() bool { return len(r.All) > 0 && r.next-r.stated > r.after }
 
-// Arrivals has what comes later.
+// Arrivals has later messages.
 func (r *ScaleReader) Arrivals() <-chan Message { return r.reader.Arrivals() }
 
-// copied is the fold as it is now.
+// copied returns a copy.
 func (s *Scaling) copied() Scaling {
 	return Scaling{All: append([]Settings(nil), s.All...), Open: s.Open, next: s.next}
 }

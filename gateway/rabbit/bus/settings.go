@@ -14,14 +14,13 @@ const (
 // MaximumPartitions is how many partitions there may be.
 const MaximumPartitions = 1024
 
-// prefix begins the name of every stream. Its number rises with the form of their messages, so that no program reads those
-// of another form.
+// prefix begins every stream's name. Its number rises with the message format, so no program reads another format.
 const prefix = "desk.2."
 
-// Registry is the stream in which senders with names of their own claim these.
+// Registry is the stream in which named senders claim their names.
 const Registry = prefix + "senders"
 
-// A Kind is one of the streams of a partition, or its lease.
+// A Kind is a stream of a partition, or its lease.
 type Kind string
 
 // The kinds.
@@ -31,13 +30,14 @@ const (
 	Lease   Kind = "lease"   // who owns the partition
 )
 
-// Settings say how many partitions there are, and since which change: the first number has epoch 0.
+// Settings is the number of partitions, and the epoch since when; the first has epoch 0.
 type Settings struct {
 	Partitions int
 	Epoch      int64
 }
 
-// name is that of a partition. It has the epoch, but for the first: after two changes there may be as many partitions as before.
+// name returns a partition's name. It has the epoch, except the first: after two changes there may be as many partitions as
+// before.
 func (s Settings) name(partition int) string {
 	name := fmt.Sprintf("%d.of.%d", partition, s.Partitions)
 	if s.Epoch > 0 {
@@ -46,7 +46,7 @@ func (s Settings) name(partition int) string {
 	return name
 }
 
-// All are the numbers of the partitions.
+// All returns the numbers of the partitions.
 func (s Settings) All() []int {
 	all := make([]int, s.Partitions)
 	for partition := range all {
@@ -55,18 +55,19 @@ func (s Settings) All() []int {
 	return all
 }
 
-// Queue is the name of a partition's stream or lease. It has the number of partitions: who counts with another finds none.
+// Queue returns the name of a partition's stream or lease. It contains the number of partitions, so programs with another
+// number find none.
 func (s Settings) Queue(kind Kind, partition int) string {
 	return fmt.Sprintf("%s%s.%s", prefix, kind, s.name(partition))
 }
 
-// A Partition is one of those of a number of partitions.
+// A Partition is a partition with the settings it belongs to.
 type Partition struct {
 	Of     Settings
 	Number int
 }
 
-// Each is each partition.
+// Each returns all partitions.
 func (s Settings) Each() []Partition {
 	each := make([]Partition, s.Partitions)
 	for number := range each {
@@ -75,15 +76,15 @@ func (s Settings) Each() []Partition {
 	return each
 }
 
-// Queue is the name of the partition's stream or lease.
+// Queue returns the name of the partition's stream or lease.
 func (p Partition) Queue(kind Kind) string { return p.Of.Queue(kind, p.Number) }
 
-// Route is where messages of a topic are published for the partition.
+// Route returns where messages of a topic are published for the partition.
 func (p Partition) Route(exchange string, topic Topic) Route {
 	return p.Of.Route(exchange, topic, p.Number)
 }
 
-// String names the partition; the first number of partitions needs no epoch.
+// String names the partition, without epoch if it is the first.
 func (p Partition) String() string {
 	if p.Of.Epoch == 0 {
 		return strconv.Itoa(p.Number)

@@ -7,7 +7,7 @@ import (
 	"gateway/rabbit/line"
 )
 
-// TakeMessage takes a message of a log in as its partition does, but for the answers: the ledger knows then what each sender sent.
+// TakeMessage takes a log message as its partition does, except for the answers: the ledger then knows what each sender sent.
 func TakeMessage(message Message, l *ledger.Ledger) {
 	from, err := ReadOrigin(message)
 	if err != nil {

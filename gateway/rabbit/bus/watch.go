@@ -8,27 +8,26 @@ import (
 	"gateway/rabbit/logs"
 )
 
-// A Watch knows how many partitions there are, some moments late.
+// A Watch knows the number of partitions, with some delay.
 type Watch struct {
 	on        Bus
 	log       *logs.Log
 	name      string
 	otherwise Settings
 	mutex     sync.Mutex
-	keeps     bool // whether it writes down what the stream says
+	keeps     bool // whether it writes down the state
 	scaling   Scaling
 	changed   chan struct{} // is closed at the next change
 	fault     error
 }
 
-// StartWatch reads how many partitions there are, and goes on to until the context ends. At brokers whose partitions were declared by
-// an older program no stream says it, and it is what is otherwise known.
+// StartWatch reads the number of partitions until the context ends. At brokers declared by an older program no stream has it,
+// and the number is the one otherwise known.
 func StartWatch(ctx context.Context, on Bus, log *logs.Log, name string, otherwise Settings) (*Watch, error) {
 	return start(ctx, &Watch{on: on, log: log, name: name, otherwise: otherwise})
 }
 
-// StartKeeping does the same for an owner. It also writes down what the stream says where much follows that, so that who looks at it
-// later reads little.
+// StartKeeping is StartWatch for an owner. It also writes down the state from time to time, so that later readers read little.
 func StartKeeping(ctx context.Context, on Bus, log *logs.Log, name string, otherwise Settings) (*Watch, error) {
 	return start(ctx, &Watch{on: on, log: log, name: name, otherwise: otherwise, keeps: true})
 }
@@ -45,14 +44,14 @@ func start(ctx context.Context, w *Watch) (*Watch, error) {
 	}
 }
 
-// Scaling is what is known.
+// Scaling returns what is known.
 func (w *Watch) Scaling() Scaling {
 	w.mutex.Lock()
 	defer w.mutex.Unlock()
 	return w.scaling
 }
 
-// Look is all that the stream says by now: what is known may be some moments late.
+// Look returns everything in the stream so far; Scaling may lag.
 func (w *Watch) Look(ctx context.Context) (Scaling, error) {
 	found := w.Scaling()
 	err := Again(ctx, w.on, w.log, func(ctx context.Context) error {
@@ -63,7 +62,7 @@ func (w *Watch) Look(ctx context.Context) (Scaling, error) {
 		defer link.Close()
 		scale, err := LookAtScale(link, w.Scaling())
 		if err != nil && w.on.Judge(err) == Missing {
-			return nil // nothing says it
+			return nil // no stream has it
 		}
 		if err == nil {
 			found = scale.copied()
@@ -73,7 +72,7 @@ func (w *Watch) Look(ctx context.Context) (Scaling, error) {
 	return found, err
 }
 
-// Newest is the newest number of partitions, and a channel that is closed once more is known.
+// Newest returns the newest number of partitions, and a channel that is closed once more is known.
 func (w *Watch) Newest() (Settings, <-chan struct{}) {
 	w.mutex.Lock()
 	defer w.mutex.Unlock()
@@ -87,7 +86,7 @@ func (w *Watch) err() error {
 	return w.fault
 }
 
-// set takes in what is known now.
+// set notes what is known now.
 func (w *Watch) set(scaling Scaling, fault error) {
 	w.mutex.Lock()
 	defer w.mutex.Unlock()
@@ -96,14 +95,14 @@ func (w *Watch) set(scaling Scaling, fault error) {
 	w.changed = make(chan struct{})
 }
 
-// passed takes in that all messages before an offset were read.
+// passed notes that all messages before an offset were read.
 func (w *Watch) passed(next int64) {
 	w.mutex.Lock()
 	defer w.mutex.Unlock()
 	w.scaling.next = next
 }
 
-// absence is how long the stream is left alone that isn't there.
+// absence is the pause after the stream was missing.
 const absence = 30 * time.Second
 
 // work reads until the context ends.
@@ -139,7 +138,7 @@ func (w *Watch) run(ctx context.Context) error {
 	if err != nil {
 		return err
 	}
-	if len(r.All) > 0 { // else the partitions are being declared
+	if len(r.All) > 0 { // otherwise the partitions are being declared
 		w.set(r.copied(), nil)
 	}
 	for {
@@ -164,7 +163,7 @@ func (w *Watch) run(ctx context.Context) error {
 	}
 }
 
-// keep writes down what the stream says, if it is time to.
+// keep writes down the state if it is time to.
 func (w *Watch) keep(link Link, r *ScaleReader) error {
 	if !w.keeps || !r.isLong() {
 		return nil

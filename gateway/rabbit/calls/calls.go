@@ -1,5 +1,5 @@
-// Package calls asks the partitions for a service: each request of a call is a line, and its answer is found by its id. Answers are
-// kept for a while, also those of other processes, so that any of them may be asked later.
+// Package calls sends service calls to the partitions. Each request of a call is a line, and its answer is found by its id.
+// Answers are kept for a while, also those of other processes, so any process can be asked for them later.
 package calls
 
 import (
@@ -19,18 +19,18 @@ import (
 	"gateway/rabbit/sender"
 )
 
-// Options say where is asked, and by which model.
+// Options says where calls are sent, and with which model.
 type Options struct {
 	Bus      bus.Bus
-	Settings bus.Settings // where the brokers don't say how many partitions there are
+	Settings bus.Settings // if the brokers don't have the number of partitions
 	Log      *logs.Log
-	Model    []byte        // the line by which the model is put in force for all calls of this process
+	Model    []byte        // the line that loads the model for all calls of this process
 	Keep     time.Duration // how long an answer is kept
-	Bytes    int           // how much of answers is kept at most
+	Bytes    int           // how many bytes of answers are kept
 	Now      func() time.Time
 }
 
-// Calls are those of one process.
+// A Calls holds the calls of one process.
 type Calls struct {
 	options Options
 	done    chan struct{} // is closed once nothing more is sent
@@ -39,24 +39,24 @@ type Calls struct {
 	sends   *metrics.Partitions
 	gets    *receiver.Gauges
 	looks   looks
-	scale   *bus.Watch // once it is known how many partitions there are
+	scale   *bus.Watch // set once the number of partitions is known
 	mutex   sync.Mutex
 	input   *feed
-	closed  bool  // whether nothing more is put in
-	reached bool  // whether it is known how many partitions there are
+	closed  bool  // whether no more calls are accepted
+	reached bool  // whether the number of partitions is known
 	epoch   int64 // of that number
-	count   int64 // of requests that were put in
+	count   int64 // of accepted requests
 	waiting map[request]*waiter
 	answers kept
 }
 
-// A request is one of those of a call.
+// A request is a request of a call.
 type request struct {
 	call string
 	at   int
 }
 
-// A waiter is told of one answer.
+// A waiter waits for one answer.
 type waiter struct {
 	job       *engine.Job
 	since     time.Time
@@ -64,10 +64,10 @@ type waiter struct {
 	line      []byte
 	order     int64 // its number among all requests
 	partition int
-	number    int64 // among the lines that were sent to its partition, or -1 where it wasn't
+	number    int64 // among the lines sent to its partition, or -1 if it wasn't
 }
 
-// name is the id of a request's line, as JSON.
+// A name is the id of a request's line, as JSON.
 type name struct {
 	Call    string `json:"call"`
 	At      int    `json:"at"`
@@ -76,15 +76,15 @@ type name struct {
 	Service string `json:"service"`
 }
 
-// A Call says what all its requests have in common.
+// A Call is what all its requests share.
 type Call struct {
-	ID      string // no other call has it
-	Key     string // of its partition: the answers to one key come in the order of its requests
-	Service string // the service of the model that is asked
+	ID      string // unique
+	Key     string // of its partition: answers for one key come in the order of its requests
+	Service string // the called service of the model
 	IsList  bool
 }
 
-// Start begins to read answers, and sends the model.
+// Start starts reading answers, and sends the model.
 func Start(ctx context.Context, options Options) (*Calls, error) {
 	if options.Now == nil {
 		options.Now = time.Now
@@ -101,7 +101,7 @@ func Start(ctx context.Context, options Options) (*Calls, error) {
 	return c, nil
 }
 
-// work begins to read answers, once it is known how many partitions there are, and sends until the context ends or nothing more comes.
+// work starts reading answers once the number of partitions is known, and sends until the context or the input ends.
 func (c *Calls) work(ctx context.Context) error {
 	scale, err := bus.StartWatch(ctx, c.options.Bus, c.options.Log, "desk http", c.options.Settings)
 	if err != nil {
@@ -114,7 +114,7 @@ func (c *Calls) work(ctx context.Context) error {
 	return c.send(ctx, scale)
 }
 
-// receive takes answers in until the context ends. One that was kept before the process was started is among them.
+// receive takes answers until the context ends, including those from before the process started.
 func (c *Calls) receive(ctx context.Context, scale *bus.Watch) {
 	from := bus.From{Place: bus.Since, Since: c.options.Now().Add(-c.options.Keep)}
 	err := receiver.Receive(ctx, receiver.Options{Bus: c.options.Bus, Scale: scale, From: from, Log: c.options.Log, Gauges: c.gets, Each: c.take})
@@ -123,7 +123,7 @@ func (c *Calls) receive(ctx context.Context, scale *bus.Watch) {
 	}
 }
 
-// Ready says whether each partition can be reached, and in words.
+// Ready reports whether each partition can be reached, and words it.
 func (c *Calls) Ready() (bool, string) {
 	c.mutex.Lock()
 	reached := c.reached
@@ -140,10 +140,10 @@ func (c *Calls) Ready() (bool, string) {
 	return true, "each partition is reached"
 }
 
-// Done is closed once nothing more is sent, and Err says why.
+// Done returns a channel that is closed once nothing more is sent; Err says why.
 func (c *Calls) Done() <-chan struct{} { return c.done }
 
-// Err is to be asked once Done is closed.
+// Err returns why. Call it once Done is closed.
 func (c *Calls) Err() error {
 	if c.err == nil {
 		return errors.New("the sender has ended")
@@ -151,7 +151,7 @@ func (c *Calls) Err() error {
 	return c.err
 }
 
-// Close sends what was put in, and ends.
+// Close sends the accepted requests, and ends.
 func (c *Calls) Close(ctx context.Context) error {
 	defer c.end()
 	c.mutex.Lock()
@@ -166,7 +166,7 @@ func (c *Calls) Close(ctx context.Context) error {
 	}
 }
 
-// Put puts the requests of a call in. Each job is told of its answer.
+// Put accepts the requests of a call. Each job gets its answer.
 func (c *Calls) Put(call Call, jobs []*engine.Job) error {
 	key, err := json.Marshal(call.Key)
 	if err != nil {
@@ -194,7 +194,7 @@ func (c *Calls) Put(call Call, jobs []*engine.Job) error {
 	return nil
 }
 
-// confirm takes in that a line is in the log of its partition.
+// confirm notes that a line is in its partition's log.
 func (c *Calls) confirm(line []byte) {
 	asked, is := idOf(line)
 	c.mutex.Lock()
@@ -204,13 +204,13 @@ func (c *Calls) confirm(line []byte) {
 	}
 }
 
-// IsSent says whether the partitions have each request of a call: then it is answered, whatever becomes of this process.
+// IsSent reports whether the partitions have each request of a call. If so it is answered, whatever happens to this process.
 func (c *Calls) IsSent(id string, requests int) bool {
 	epoch, is := c.isConfirmed(id, requests)
 	return is && c.looks.isSame(epoch, c.look)
 }
 
-// isConfirmed says whether each request of a call is confirmed, and with how many partitions.
+// isConfirmed reports whether each request of a call is confirmed, and returns the epoch.
 func (c *Calls) isConfirmed(id string, requests int) (epoch int64, is bool) {
 	c.mutex.Lock()
 	defer c.mutex.Unlock()
@@ -222,17 +222,17 @@ func (c *Calls) isConfirmed(id string, requests int) (epoch int64, is bool) {
 	return c.epoch, true
 }
 
-// Find is what is kept of a call, or nil.
+// Find returns what is kept of a call, or nil.
 func (c *Calls) Find(id string) *Kept {
 	c.mutex.Lock()
 	defer c.mutex.Unlock()
 	return c.answers.find(id)
 }
 
-// IsOver says of a call that was made then whether its answer isn't kept any longer.
+// IsOver reports whether the answer to a call made then is no longer kept.
 func (c *Calls) IsOver(made time.Time) bool { return c.options.Now().Sub(made) > c.options.Keep }
 
-// take takes an answer in.
+// take takes an answer.
 func (c *Calls) take(text []byte, _ answer.Record) error {
 	key, id, outcome, is := read(text)
 	if !is {
@@ -250,7 +250,7 @@ func (c *Calls) take(text []byte, _ answer.Record) error {
 	return nil
 }
 
-// expire lets go of answers that are kept for long, and of requests that have waited for as long: these are lost.
+// expire drops old answers, and requests that have waited as long: these are lost.
 func (c *Calls) expire(ctx context.Context) {
 	look := time.NewTicker(time.Second)
 	defer look.Stop()
@@ -266,7 +266,7 @@ func (c *Calls) expire(ctx context.Context) {
 	}
 }
 
-// late takes out the requests that wait since a time or before, and the answers that are kept since then.
+// late removes the requests that have waited since a time or before, and the answers kept since then.
 func (c *Calls) late(since time.Time) []*engine.Job {
 	c.mutex.Lock()
 	defer c.mutex.Unlock()

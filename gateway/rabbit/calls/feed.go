@@ -5,7 +5,7 @@ import (
 	"sync"
 )
 
-// A feed is an input that lines are added to without waiting.
+// A feed is an input to which lines are added without waiting.
 type feed struct {
 	mutex  sync.Mutex
 	wake   *sync.Cond
@@ -27,7 +27,7 @@ func (f *feed) add(lines []byte) {
 	f.wake.Signal()
 }
 
-// close says that no more lines come.
+// close ends the feed.
 func (f *feed) close() {
 	f.mutex.Lock()
 	f.closed = true
@@ -35,7 +35,7 @@ func (f *feed) close() {
 	f.wake.Signal()
 }
 
-// Read gives what is there, once something is.
+// Read returns what is there, once something is.
 func (f *feed) Read(to []byte) (int, error) {
 	f.mutex.Lock()
 	defer f.mutex.Unlock()

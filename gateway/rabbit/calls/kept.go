@@ -6,25 +6,25 @@ import (
 	"gateway/engine"
 )
 
-// A Kept call has answers.
+// A Kept is a call with answers.
 type Kept struct {
 	Key      string
 	Service  string
 	IsList   bool
-	Outcomes []engine.Outcome // of its requests; those of the ones without an answer say nothing
-	due      int              // how many are without one
+	Outcomes []engine.Outcome // of its requests; empty for those without an answer
+	due      int              // how many have no answer
 	has      []bool
 	bytes    int
 	since    time.Time
 }
 
-// IsWhole says whether each request has an answer.
+// IsWhole reports whether each request has an answer.
 func (k *Kept) IsWhole() bool { return k.due == 0 }
 
-// overhead is about what a request takes besides the text of its answer, in bytes: a call has room for all of its own at once.
+// overhead is about how many bytes a request takes besides its answer's text. A call allocates all of its own at once.
 const overhead = 150
 
-// kept are the calls whose answers are kept, the first one that came first.
+// A kept holds the calls with kept answers, oldest first.
 type kept struct {
 	most   int // bytes
 	bytes  int
@@ -53,7 +53,7 @@ func (k *kept) add(key string, id name, outcome engine.Outcome, now time.Time) {
 	}
 }
 
-// find is a call, as it is now, or nil.
+// find returns a copy of a call, or nil.
 func (k *kept) find(id string) *Kept {
 	call := k.byCall[id]
 	if call == nil {
@@ -64,14 +64,14 @@ func (k *kept) find(id string) *Kept {
 	return &copied
 }
 
-// forget lets go of the calls whose first answer came before a time.
+// forget drops the calls whose first answer came before a time.
 func (k *kept) forget(before time.Time) {
 	for len(k.order) > 0 && k.byCall[k.order[0]].since.Before(before) {
 		k.drop()
 	}
 }
 
-// drop lets go of the oldest call.
+// drop drops the oldest call.
 func (k *kept) drop() {
 	k.bytes -= k.byCall[k.order[0]].bytes
 	delete(k.byCall, k.order[0])

@@ -8,7 +8,7 @@ import (
 	"gateway/engine"
 )
 
-// Calls of many requests, each with one short answer, take no more memory than they may, and the oldest are let go first.
+// Calls with many short answers take no more memory than allowed, and the oldest are dropped first.
 func TestKeptBytes(t *testing.T) {
 	k := kept{most: 64 << 20, byCall: map[string]*Kept{}}
 	for number := 0; number < 200; number++ {

@@ -8,10 +8,10 @@ import (
 	"gateway/rabbit/answer"
 )
 
-// callStart begins the id of a request of a call.
+// callStart begins the id of a call's request.
 const callStart = `,"id":{"call":"`
 
-// read reads a line of the answers, and says whether it is one to a request of a call.
+// read reads a line of the answers, and reports whether it answers a call's request.
 func read(text []byte) (key string, id name, outcome engine.Outcome, is bool) {
 	if !bytes.Contains(text, []byte(callStart)) {
 		return "", id, outcome, false
@@ -41,10 +41,10 @@ func read(text []byte) (key string, id name, outcome engine.Outcome, is bool) {
 	return line.Key, id, outcome, true
 }
 
-// mostRequests is how many requests a call may have.
+// mostRequests limits the requests of a call.
 const mostRequests = 10_000
 
-// refused is the outcome of a refusal, of the engine or in its stead.
+// refused returns the outcome of a refusal, by the engine or without it.
 func refused(word string) engine.Outcome {
 	switch answer.Reason(word) {
 	case answer.Deadline:

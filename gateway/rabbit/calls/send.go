@@ -13,7 +13,7 @@ import (
 	"gateway/rabbit/sender"
 )
 
-// send sends what is put in, by one sender after the other: each for one number of partitions.
+// send sends accepted lines with one sender after another, each for one number of partitions.
 func (c *Calls) send(ctx context.Context, scale *bus.Watch) error {
 	for {
 		name, err := bus.NewMark()
@@ -42,14 +42,14 @@ func (c *Calls) send(ctx context.Context, scale *bus.Watch) error {
 	}
 }
 
-// idOf is the id of a request's line; a model has none.
+// idOf returns the id of a request's line; models have none.
 func idOf(line []byte) (request, bool) {
 	var read struct{ ID name }
 	err := json.Unmarshal(line, &read)
 	return request{read.ID.Call, read.ID.At}, err == nil && read.ID.Call != ""
 }
 
-// number takes in which number a line has among those of its partition.
+// number notes a line's number among those of its partition.
 func (c *Calls) number(line []byte, partition int, number int64) {
 	asked, is := idOf(line)
 	c.mutex.Lock()
@@ -59,7 +59,7 @@ func (c *Calls) number(line []byte, partition int, number int64) {
 	}
 }
 
-// again puts in once more what the partitions did not take of what has no answer, in order. They took so many lines each.
+// again accepts unanswered lines again that the partitions did not take, in order. They took this many lines each.
 func (c *Calls) again(taken []int64) {
 	c.mutex.Lock()
 	defer c.mutex.Unlock()
@@ -73,7 +73,7 @@ func (c *Calls) again(taken []int64) {
 		}
 	}
 	sort.Slice(rest, func(a, b int) bool { return rest[a].order < rest[b].order })
-	c.input.close() // whoever reads it reads no more of what comes
+	c.input.close() // its reader ignores what comes later
 	c.input = newFeed()
 	c.input.add(c.options.Model)
 	for _, w := range rest {
@@ -84,12 +84,12 @@ func (c *Calls) again(taken []int64) {
 	}
 }
 
-// lookTime is how long a look at the number of partitions may take.
+// lookTime limits a look at the number of partitions.
 const lookTime = 5 * time.Second
 
 var errLate = fmt.Errorf("the broker did nothing for %v", lookTime)
 
-// look is the newest number of partitions, and says whether it could be found.
+// look returns the newest number of partitions, and reports whether it was found.
 func (c *Calls) look() (bus.Settings, bool) {
 	ctx, stop := context.WithTimeout(context.Background(), lookTime)
 	defer stop()
@@ -105,20 +105,20 @@ func (c *Calls) look() (bus.Settings, bool) {
 	c.mutex.Unlock()
 	scale, err := bus.LookAtScale(link, known)
 	if err != nil {
-		return bus.Settings{}, c.options.Bus.Judge(err) == bus.Missing // an older program has declared the partitions
+		return bus.Settings{}, c.options.Bus.Judge(err) == bus.Missing // an older program declared the partitions
 	}
 	newest, is := scale.Newest()
 	return newest, is
 }
 
-// Looks are looks at the number of partitions, of which one serves all that have waited for it. The zero value has made none.
+// A looks shares looks at the number of partitions: one serves all that have waited for it. The zero value has made none.
 type looks struct {
 	mutex sync.Mutex
 	begun time.Time // the last
 	epoch int64     // what it found, or -1
 }
 
-// isSame says whether there is no other number of partitions than of this epoch, by a look that begins now or later.
+// isSame reports whether the number of partitions still has this epoch, by a look that begins now or later.
 func (l *looks) isSame(epoch int64, look func() (bus.Settings, bool)) bool {
 	asked := time.Now()
 	l.mutex.Lock()

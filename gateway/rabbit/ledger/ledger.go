@@ -6,17 +6,17 @@ import (
 	"gateway/rabbit/line"
 )
 
-// A Ledger is the state of a partition up to one place of its log.
+// A Ledger is a partition's state up to one place of its log.
 type Ledger struct {
-	Place   Place // up to which all lines are answered
-	Part    bool  // whether the message at that place has further lines
-	Lines   int64 // how many lines were given to the engine, or refused in its stead
+	Place   Place // the last answered place
+	Part    bool  // whether the message there has more lines
+	Lines   int64 // how many lines went to the engine, or were refused without it
 	Models  *Models
 	Tickets [line.Clients]int64 // the next ticket of each client
 	Senders *Senders
 }
 
-// New is the ledger of an empty log. Named senders are known for so long after their last message; 0 says for ever.
+// New returns the ledger of an empty log. Named senders are remembered for keep after their last message; 0 means forever.
 func New(keep time.Duration) *Ledger {
 	return (&Ledger{Place: Start, Models: NewModels()}).with(NewSenders(nil, time.Time{}, keep))
 }
@@ -27,17 +27,17 @@ func (l *Ledger) with(senders *Senders) *Ledger {
 	return l
 }
 
-// An Outcome is what an answer changes for the lines after it.
+// An Outcome is what an answer changes for later lines.
 type Outcome struct {
 	HasTicket bool
-	Ticket    int64 // the ticket of the answer, where it has one
-	InForce   bool  // whether the line is a model, and was put in force
+	Ticket    int64 // the answer's ticket, if any
+	InForce   bool  // whether the line is a model and was loaded
 }
 
-// Skip takes in that a line or a message has no answer.
+// Skip notes that a line or message has no answer.
 func (l *Ledger) Skip(place Place) { l.Place = place }
 
-// SettleLost takes in the outcome of the answer to a line that is lost, of a client or of none.
+// SettleLost takes the outcome of the answer to a lost line, of a client or none.
 func (l *Ledger) SettleLost(client int, outcome Outcome) {
 	l.Lines++
 	if outcome.InForce {
@@ -48,7 +48,7 @@ func (l *Ledger) SettleLost(client int, outcome Outcome) {
 	}
 }
 
-// Settle takes in that a line of a batch is answered.
+// Settle notes that a line of a batch is answered.
 func (l *Ledger) Settle(place Place, batch BatchKey, read line.Line, outcome Outcome) {
 	l.Place = place
 	l.Lines++

@@ -20,7 +20,7 @@ func TestChain(t *testing.T) {
 	}{
 		{Start, at(0, 5), true},
 		{at(0, 5), at(2, 0), true},
-		{at(0, 5), at(2, 0), false}, // the same once more
+		{at(0, 5), at(2, 0), false}, // the same again
 		{at(3, 0), at(4, 0), false}, // one is missing before it
 		{at(1, 0), at(3, 0), true},  // it overlaps
 		{at(3, 0), at(4, 0), true},
@@ -40,7 +40,7 @@ func TestChain(t *testing.T) {
 	}
 }
 
-// A senderLog gives messages to senders, one second after the other.
+// A senderLog gives messages to senders, one each second.
 type senderLog struct {
 	*Senders
 	now time.Time
@@ -63,7 +63,7 @@ func (s *senderLog) control(kind Kind, sender string, epoch int64, batch string)
 	return counts
 }
 
-// Each line of a batch is taken once, and one with the same number in another batch is another line.
+// Each line of a batch is taken once; a line with the same number in another batch is another line.
 func TestSendersTakeEachLineOnce(t *testing.T) {
 	s := newSenderLog(0)
 	for step, got := range []bool{
@@ -81,12 +81,12 @@ func TestSendersTakeEachLineOnce(t *testing.T) {
 	}
 }
 
-// Where a newer process has claimed a name, no line of the older one is taken, whichever of the two speaks first.
+// Once a newer process has claimed a name, no line of the older one is taken, no matter which is first.
 func TestANewerProcessFencesTheOlder(t *testing.T) {
 	s := newSenderLog(0)
 	s.take("a", 5, "x", 0)
 	s.control(Claim, "a", 9, "")
-	s.control(Claim, "a", 7, "") // two claims that come in the other order
+	s.control(Claim, "a", 7, "") // two claims in the other order
 	for step, got := range []bool{
 		s.take("a", 5, "x", 1) == Fenced, s.take("a", 7, "x", 1) == Fenced, s.take("a", 9, "x", 0) == Repeated,
 		s.take("a", 9, "x", 1) == Taken, !s.control(End, "a", 7, "x"), s.take("a", 9, "x", 2) == Taken,
@@ -98,7 +98,7 @@ func TestANewerProcessFencesTheOlder(t *testing.T) {
 	}
 }
 
-// Senders without names of their own push out no named one, and are forgotten at their end.
+// Senders without a name push out no named one, and are forgotten at their end.
 func TestNamelessSendersPushOutTheirOwnAlone(t *testing.T) {
 	s := newSenderLog(0)
 	s.take("named", 1, "x", 0)
@@ -124,7 +124,7 @@ func TestNamelessSendersPushOutTheirOwnAlone(t *testing.T) {
 	}
 }
 
-// Names and batches are known for their time, by the time stamps in the log, and no sender has too many batches.
+// Names and batches are remembered for their time, by the log's time stamps, and no sender has too many batches.
 func TestWhatIsOldIsForgotten(t *testing.T) {
 	s := newSenderLog(time.Hour)
 	s.take("a", 1, "x", 0)
@@ -166,7 +166,7 @@ func TestDigestsOfABatch(t *testing.T) {
 	}
 }
 
-// A batch keeps its own model, and one without has that of the log at its first line.
+// A batch keeps its own model; one without has the log's model at its first line.
 func TestModelsOfBatches(t *testing.T) {
 	m := NewModels()
 	a, b, c := BatchKey{"s", "a"}, BatchKey{"s", "b"}, BatchKey{"s", "c"}

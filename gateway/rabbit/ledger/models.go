@@ -2,26 +2,26 @@ package ledger
 
 import "bytes"
 
-// Models knows the model in force for each batch that is open. A model of a batch is in force for the batch's further
-// lines. A batch without one has the model that was in force in the log where its first line is.
+// Models has the model of each open batch. A batch's model applies to its later lines. A batch without one has the log's model
+// at its first line.
 type Models struct {
-	log     []byte // the last model that was put in force, by any batch; nil if there is none, or unknown
+	log     []byte // the last model that any batch loaded; nil if there is none, or unknown
 	batches map[BatchKey][]byte
 }
 
-// unknown stands for a model that was put in force, and is lost.
+// unknown is a model that was loaded and is lost.
 var unknown = []byte{}
 
-// IsUnknown says whether a model was put in force, and is lost.
+// IsUnknown reports whether a model was loaded and is lost.
 func IsUnknown(model []byte) bool { return model != nil && len(model) == 0 }
 
-// Lose takes in that a model was put in force, and is lost.
+// Lose notes that a model was loaded and is lost.
 func (m *Models) Lose() { m.log = unknown }
 
-// NewModels knows no model.
+// NewModels has no models.
 func NewModels() *Models { return &Models{batches: make(map[BatchKey][]byte)} }
 
-// Clone is a copy that changes by itself.
+// Clone returns an independent copy.
 func (m *Models) Clone() *Models {
 	copied := &Models{log: m.log, batches: make(map[BatchKey][]byte, len(m.batches))}
 	for key, text := range m.batches {
@@ -30,23 +30,23 @@ func (m *Models) Clone() *Models {
 	return copied
 }
 
-// Begin takes in that the next line is the first of its batch.
+// Begin notes that the next line is the first of its batch.
 func (m *Models) Begin(batch BatchKey) { m.batches[batch] = m.log }
 
-// Put takes in that a model of the batch is in force.
+// Put notes that a model of the batch is loaded.
 func (m *Models) Put(batch BatchKey, text []byte) {
 	m.log = text
 	m.batches[batch] = text
 }
 
-// Last is the model that was put in force last, by whichever batch, or nil.
+// Last returns the model that any batch loaded last, or nil.
 func (m *Models) Last() []byte { return m.log }
 
-// At is the model in force for the next line of the batch, or nil.
+// At returns the model for the batch's next line, or nil.
 func (m *Models) At(batch BatchKey) []byte { return m.batches[batch] }
 
-// Forget takes in that the batch has no further line.
+// Forget notes that the batch has no more lines.
 func (m *Models) Forget(batch BatchKey) { delete(m.batches, batch) }
 
-// SameModel says whether two models, each nil where there is none, have the same text.
+// SameModel reports whether two models have the same text; nil means no model.
 func SameModel(a, b []byte) bool { return (a == nil) == (b == nil) && bytes.Equal(a, b) }

@@ -12,7 +12,7 @@ type Origination struct {
 	Partition  int   `json:"partition"`
 }
 
-// A Section is what a partition had taken of a batch when its log was closed. It doesn't change any more.
+// A Section is what a partition took of a batch before its log was closed. It no longer changes.
 type Section struct {
 	Origination
 	Count  int64 // lines
@@ -29,13 +29,13 @@ type Source struct {
 	*Ledger
 }
 
-// Merge is the ledger before the first line of a partition whose keys were those of the sources. It is a function of these, so each
-// owner of the partition begins with the same. Named senders are known for so long after their last message.
+// Merge returns the ledger before the first line of a partition that has the keys of the sources. It depends only on these, so
+// each owner of the partition begins with the same. Named senders are remembered for keep after their last message.
 //
-// Of each client the greatest ticket counts, and of each name the newest process. The model in force is that of the first source. A
-// batch counts its lines anew; sections say what the sources took. A model of a batch comes again unless each source took it, so
-// the batch begins with the model of the source that took the fewest. Senders without names of their own can't send again, and
-// are forgotten.
+// The greatest ticket of each client counts, and the newest process of each name. The current model is that of the first
+// source. A batch counts its lines from the start; sections say what the sources took. A model of a batch comes again unless
+// each source took it, so the batch begins with the model of the source that took the fewest. Senders without a name can't send
+// again, and are forgotten.
 func Merge(sources []Source, keep time.Duration) *Ledger {
 	l := New(keep)
 	names := map[string]*Sender{}
@@ -75,7 +75,7 @@ func Merge(sources []Source, keep time.Duration) *Ledger {
 	return l.with(NewSenders(known, now, keep))
 }
 
-// mergeSender takes in what a source knows of a sender, but for its batches.
+// mergeSender takes what a source knows of a sender, except its batches.
 func mergeSender(names map[string]*Sender, sender Sender) {
 	found := names[sender.Name]
 	if found == nil {
@@ -90,7 +90,7 @@ func mergeSender(names map[string]*Sender, sender Sender) {
 	}
 }
 
-// mergeBatches makes the batches of a sender of what the sources know of them.
+// mergeBatches merges what the sources know of a sender's batches.
 func mergeBatches(sender *Sender, sources []Source, models *Models) {
 	batches := map[string]*Batch{}
 	for _, source := range sources {
@@ -121,8 +121,8 @@ func mergeBatches(sender *Sender, sources []Source, models *Models) {
 	}
 }
 
-// mergeBatch makes a batch of what the sources know of it, or nil where none has begun it: its next line is the first, as that of a batch
-// that isn't known. A source in which it has ended needs no model for it any more.
+// mergeBatch merges what the sources know of a batch. It returns nil if none has begun it: its next line is the first, as for
+// an unknown batch. A source in which the batch has ended needs no model.
 func mergeBatch(key BatchKey, sources []Source, models *Models) *Batch {
 	merged, fewest := &Batch{ID: key.Batch, Ended: true}, int64(-1)
 	for _, source := range sources {
@@ -152,7 +152,7 @@ func mergeBatch(key BatchKey, sources []Source, models *Models) *Batch {
 	return merged
 }
 
-// isBegun says whether some line of the batch came.
+// isBegun reports whether any line of the batch came.
 func (b *Batch) isBegun() bool {
 	for _, section := range b.Sections {
 		if section.Count > 0 || section.Missing > 0 {
@@ -162,7 +162,7 @@ func (b *Batch) isBegun() bool {
 	return false
 }
 
-// take takes in what a source knows of a batch.
+// take takes what a source knows of a batch.
 func (b *Batch) take(from Origination, of *Batch) {
 	b.Adrift = b.Adrift || of.Adrift
 	if b.Sent.Before(of.Sent) {
@@ -181,7 +181,7 @@ func (b *Batch) take(from Origination, of *Batch) {
 	})
 }
 
-// has says whether the section of a partition is known: two sources may have come from it.
+// has reports whether a partition's section is known: two sources may have inherited it.
 func (b *Batch) has(of Origination) bool {
 	for _, section := range b.Sections {
 		if section.Origination == of {

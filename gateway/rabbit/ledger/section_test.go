@@ -7,7 +7,7 @@ import (
 	"time"
 )
 
-// source is a closed partition of two that took some lines of a batch, models among them.
+// source returns a closed partition of two that took some lines of a batch, including models.
 func source(partition int, tickets int64, epoch int64, ended bool, lines ...string) Source {
 	l := New(0)
 	l.Tickets[3], l.Lines = tickets, tickets
@@ -28,8 +28,8 @@ func source(partition int, tickets int64, epoch int64, ended bool, lines ...stri
 	return Source{Origination{Epoch: 0, Partitions: 2, Partition: partition}, l}
 }
 
-// A partition begins with what its sources know: the greatest tickets, the newest process, sections of each batch, and of the
-// model the one that the batch's next line needs. A snapshot has all of it, and the order of the sources' batches doesn't matter.
+// A partition begins with what its sources know: the greatest tickets, the newest process, sections of each batch, and the
+// model that the batch's next line needs. A snapshot has all of it, and the order of the sources' batches doesn't matter.
 func TestMerge(t *testing.T) {
 	sources := []Source{source(0, 7, 5, false, "m1", "x", "m2", "y"), source(1, 9, 4, false, "m1")}
 	l := Merge(sources, 0)
@@ -66,7 +66,8 @@ func TestMerge(t *testing.T) {
 	}
 }
 
-// A source that had a model before its first line knows more of it than one that has none: the next line is decided without that model.
+// A source that had a model before its first line knows more of the model than one without: the next line is decided without
+// that model.
 func TestMergeOfInheritedModels(t *testing.T) {
 	first := Source{Origination{0, 2, 0}, New(0)}
 	first.Models.Put(BatchKey{"other", ""}, []byte(`"o"`))
@@ -80,7 +81,7 @@ func TestMergeOfInheritedModels(t *testing.T) {
 	}
 }
 
-// After a second change a batch has the sections of both, each once.
+// After a second change a batch has the sections of both, once.
 func TestMergeAgain(t *testing.T) {
 	whole := source(0, 1, 1, true, "x", "y")
 	halves := []Source{{Origination{1, 2, 0}, Merge([]Source{whole}, 0)}, {Origination{1, 2, 1}, Merge([]Source{whole}, 0)}}
@@ -90,8 +91,8 @@ func TestMergeAgain(t *testing.T) {
 	}
 }
 
-// A batch that has ended in one source goes on with the model of another. One of which no line came anywhere has not begun: its first
-// line is decided by the model that is in force there.
+// A batch that has ended in one source continues with another's model. One without any line has not begun: its first line is
+// decided by the current model.
 func TestMergeOfEndedBatches(t *testing.T) {
 	going := source(1, 1, 1, false, "x")
 	going.Models.Put(BatchKey{"other", ""}, []byte(`"o"`))

@@ -5,15 +5,14 @@ import (
 	"time"
 )
 
-// MaximumNameless is how many senders without a name of their own are known at a time. One more, and the one whose last
-// line is the oldest is forgotten.
+// MaximumNameless limits the remembered senders without a name. Beyond it the one with the oldest last line is forgotten.
 const MaximumNameless = 10_000
 
-// MaximumBatches is how many batches of a sender are known at a time. One more, and the oldest is forgotten.
+// MaximumBatches limits the remembered batches of a sender. Beyond it the oldest is forgotten.
 const MaximumBatches = 1000
 
-// namelessTime is how long such a sender is known after its last message, by the time stamps in the log. It is forgotten
-// at its end; this is for one that has died.
+// namelessTime is how long such a sender is remembered after its last message, by the log's time stamps. It is usually
+// forgotten at its end; this is for one that died.
 const namelessTime = 24 * time.Hour
 
 // A Sender is what is known of one sender.
@@ -21,11 +20,11 @@ type Sender struct {
 	Name    string
 	Named   bool
 	Epoch   int64    // of the newest process
-	Batches []*Batch // the one that came last stands last
+	Batches []*Batch // the latest is last
 	Sent    time.Time
 }
 
-// Batch is what is known of a batch, or nil.
+// Batch returns what is known of a batch, or nil.
 func (s *Sender) Batch(id string) *Batch {
 	if s == nil {
 		return nil
@@ -38,17 +37,17 @@ func (s *Sender) Batch(id string) *Batch {
 	return nil
 }
 
-// Senders knows what each sender has sent. It is a function of the log. NewSenders makes one.
+// Senders has what each sender has sent. It is a function of the log. NewSenders makes one.
 type Senders struct {
-	keep   time.Duration // how long named senders and their batches are known; 0 says for ever
+	keep   time.Duration // how long named senders and their batches are remembered; 0 means forever
 	now    time.Time     // the latest time stamp in the log
 	byName map[string]*list.Element
-	byUse  [2]*list.List // of *Sender, without and with names of their own, the one that sent last at the back
+	byUse  [2]*list.List // of *Sender, without and with their own names, the latest at the back
 	forget func(BatchKey)
 }
 
-// NewSenders knows these senders, of each kind the one that sent last at the end, and the latest time stamp of the log.
-// Named ones are kept for so long after their last message; 0 says for ever.
+// NewSenders has these senders, the latest of each kind last, and the log's latest time stamp. Named ones are remembered for
+// keep after their last message; 0 means forever.
 func NewSenders(known []Sender, now time.Time, keep time.Duration) *Senders {
 	s := &Senders{keep: keep, now: now, byName: make(map[string]*list.Element), byUse: [2]*list.List{list.New(), list.New()},
 		forget: func(BatchKey) {}}
@@ -64,7 +63,7 @@ func NewSenders(known []Sender, now time.Time, keep time.Duration) *Senders {
 	return s
 }
 
-// Clone is a copy that changes by itself.
+// Clone returns an independent copy.
 func (s *Senders) Clone() *Senders { return NewSenders(s.All(), s.now, s.keep) }
 
 func (s *Senders) of(named bool) *list.List {
@@ -74,7 +73,7 @@ func (s *Senders) of(named bool) *list.List {
 	return s.byUse[0]
 }
 
-// All are the senders; of each kind the one that sent last comes last.
+// All returns the senders, the latest of each kind last.
 func (s *Senders) All() []Sender {
 	var all []Sender
 	for _, of := range s.byUse {
@@ -85,7 +84,7 @@ func (s *Senders) All() []Sender {
 	return all
 }
 
-// Find is what is known of a sender, or nil.
+// Find returns what is known of a sender, or nil.
 func (s *Senders) Find(name string) *Sender {
 	if element := s.byName[name]; element != nil {
 		return element.Value.(*Sender)
@@ -93,34 +92,34 @@ func (s *Senders) Find(name string) *Sender {
 	return nil
 }
 
-// A Verdict is what becomes of a line.
+// A Verdict is what happens to a line.
 type Verdict int
 
-// What becomes of a line.
+// The verdicts.
 const (
 	Taken    Verdict = iota
 	Repeated         // it was taken before
-	Fenced           // a newer process sends under its name
+	Fenced           // a newer process uses its name
 
 	Verdicts = iota // how many there are
 )
 
-// A Taking is what Take says of a line. A sender waits for the confirm of a message before it sends the next one to the
-// same partition, so if lines are missing, the broker has lost them.
+// A Taking is what Take reports about a line. A sender waits for a message's confirm before it sends the next to the same
+// partition, so missing lines were lost by the broker.
 type Taking struct {
 	Verdict Verdict
-	First   bool  // whether it is the first line of its batch that came
+	First   bool  // whether it is the first of its batch to come
 	Missing int64 // how many lines of its batch are missing before it; each is reported once
-	Adrift  bool  // whether the model of the line isn't known, since that is missing
+	Adrift  bool  // whether the line's model isn't known, as it is missing
 	Step    Step  // of the batch's digest
 }
 
-// Take takes a line with this number of its batch in, unless it was taken before or a newer process has the name.
+// Take takes a line with this number in its batch, unless it was taken before or a newer process has the name.
 func (s *Senders) Take(from Origin, number int64, line []byte, isModel bool) Taking {
 	return s.TakeKnown(from, number, line, isModel, Step{})
 }
 
-// TakeKnown is Take of a line whose step is known from another copy of the senders, so that it isn't computed again.
+// TakeKnown is Take with the step known from another copy of the senders, so that it isn't computed again.
 func (s *Senders) TakeKnown(from Origin, number int64, line []byte, isModel bool, known Step) Taking {
 	sender := s.seen(from)
 	if from.Epoch < sender.Epoch {
@@ -140,7 +139,7 @@ func (s *Senders) TakeKnown(from Origin, number int64, line []byte, isModel bool
 	return Taking{Verdict: Taken, First: first, Missing: missing, Adrift: batch.Adrift, Step: step}
 }
 
-// Control takes in a claim or the end of a batch. It says whether it counts, and how many lines of the batch never came.
+// Control takes a claim or a batch's end. It reports whether it counts, and how many lines of the batch never came.
 func (s *Senders) Control(from Origin) (counts bool, missing int64) {
 	sender := s.seen(from)
 	if from.Epoch < sender.Epoch {
@@ -165,7 +164,7 @@ func (s *Senders) Control(from Origin) (counts bool, missing int64) {
 	return true, missing
 }
 
-// begin begins a batch, and forgets those of the sender that are too old or too many.
+// begin begins a batch, and forgets the sender's batches that are too old or too many.
 func (s *Senders) begin(sender *Sender, id string) *Batch {
 	batch := &Batch{ID: id, Sent: s.now}
 	sender.Batches = append(sender.Batches, batch)
@@ -176,7 +175,7 @@ func (s *Senders) begin(sender *Sender, id string) *Batch {
 	return batch
 }
 
-// seen finds or makes the sender of a message, and forgets those whose time has passed.
+// seen finds or makes a message's sender, and forgets expired ones.
 func (s *Senders) seen(from Origin) *Sender {
 	if from.Sent.After(s.now) {
 		s.now = from.Sent
@@ -196,7 +195,7 @@ func (s *Senders) seen(from Origin) *Sender {
 	return sender
 }
 
-// BreakOff takes in that what the open batches had sent last isn't known: none of them can be sent again.
+// BreakOff notes that what the open batches sent last isn't known: none of them can be sent again.
 func (s *Senders) BreakOff() {
 	for _, of := range s.byUse {
 		for element := of.Front(); element != nil; element = element.Next() {
@@ -209,7 +208,7 @@ func (s *Senders) BreakOff() {
 	}
 }
 
-// forgetOld forgets the senders and batches whose time has passed.
+// forgetOld forgets expired senders and batches.
 func (s *Senders) forgetOld() {
 	for first := s.of(false).Front(); first != nil && s.isOld(first, namelessTime); first = s.of(false).Front() {
 		s.remove(first)

@@ -9,15 +9,14 @@ import (
 	"gateway/rabbit/line"
 )
 
-// SnapshotVersion is the version of the form of snapshots that this program writes and reads. Where batches have sections it is
-// sectionsVersion, so that no program takes it that doesn't know these.
+// SnapshotVersion is the version of the snapshot format. With sections it is sectionsVersion, so that programs without sections
+// reject it.
 const (
 	SnapshotVersion = 2
 	sectionsVersion = 3
 )
 
-// snapshot is a ledger in JSON. Each model is in it once, and is named by its number; -1 says that there is none, and -2 that it
-// is lost.
+// A snapshot is a ledger in JSON. It has each model once, named by number; -1 means none, -2 a lost one.
 type snapshot struct {
 	Version int               `json:"version"`
 	Program string            `json:"program"` // the version of the program that wrote it
@@ -50,7 +49,7 @@ type batchRecord struct {
 	Adrift  bool     `json:"adrift,omitempty"`
 	Sent    int64    `json:"sent"`
 	Model   int      `json:"model"` // of an open batch
-	// Had is how many models it had at first, and Sections are what closed partitions took of it.
+	// Had is how many models it had at first, Sections what closed partitions took of it.
 	Had      int64           `json:"had,omitempty"`
 	Sections []sectionRecord `json:"sections,omitempty"`
 }
@@ -64,7 +63,7 @@ type sectionRecord struct {
 	Last    []byte   `json:"last,omitempty"`
 }
 
-// Snapshot is the ledger as the body of a message, written by this version of the program.
+// Snapshot returns the ledger as the body of a message, written by this program version.
 func (l *Ledger) Snapshot(program string) ([]byte, error) {
 	w := &snapshotWriter{numbers: make(map[string]int)}
 	s := snapshot{Version: SnapshotVersion, Program: program, Place: l.Place, Part: l.Part, Lines: l.Lines, Model: w.number(l.Models.log),
@@ -87,20 +86,20 @@ func (l *Ledger) Snapshot(program string) ([]byte, error) {
 	}
 	var body bytes.Buffer
 	encoder := json.NewEncoder(&body)
-	encoder.SetEscapeHTML(false) // a model stays as it was sent
+	encoder.SetEscapeHTML(false) // a model stays as sent
 	if err := encoder.Encode(s); err != nil {
 		return nil, fmt.Errorf("writing a snapshot: %w", err)
 	}
 	return body.Bytes(), nil
 }
 
-// Numbers that name no model of the list.
+// Numbers that are not in the list of models.
 const (
 	noModel   = -1
 	lostModel = -2
 )
 
-// A snapshotWriter gives each model a number.
+// A snapshotWriter numbers the models.
 type snapshotWriter struct {
 	models      []json.RawMessage
 	numbers     map[string]int
@@ -154,7 +153,7 @@ func read(marks [][]byte) (digests []Digest) {
 	return digests
 }
 
-// Read reads a snapshot. Named senders are known for so long after their last message.
+// Read reads a snapshot. Named senders are remembered for keep after their last message.
 func Read(body []byte, keep time.Duration) (*Ledger, error) {
 	var s snapshot
 	if err := json.Unmarshal(body, &s); err != nil {
@@ -182,7 +181,7 @@ func Read(body []byte, keep time.Duration) (*Ledger, error) {
 	return l.with(NewSenders(senders, time.UnixMilli(s.Sent), keep)), nil
 }
 
-// readModels reads which models are in force.
+// readModels reads which models apply.
 func (l *Ledger) readModels(s snapshot) error {
 	var err error
 	if l.Models.log, err = s.model(s.Model); err != nil {
@@ -202,7 +201,7 @@ func (l *Ledger) readModels(s snapshot) error {
 	return nil
 }
 
-// model is the model of this number.
+// model returns the model with this number.
 func (s snapshot) model(number int) ([]byte, error) {
 	switch {
 	case number == noModel:

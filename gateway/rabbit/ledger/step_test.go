@@ -6,7 +6,7 @@ import (
 	"testing"
 )
 
-// A copy of the senders that is given the steps of another one knows the same. A step that isn't the next one is not taken.
+// A copy of the senders with steps from another one ends in the same state. A wrong step is not used.
 func TestKnownSteps(t *testing.T) {
 	one, other, wrong := New(0).Senders, New(0).Senders, New(0).Senders
 	from := Origin{Kind: Lines, Sender: "a", Named: true, Batch: "x"}

@@ -1,5 +1,5 @@
-// Package line reads the lines that travel through the partitions, and says which partition and which client of the
-// engine a key has. Every byte of a key, an id and a number stays as it was sent.
+// Package line reads the lines that go through the partitions, and computes a key's partition and engine client. Keys, ids and
+// numbers keep every byte as sent.
 package line
 
 import (
@@ -11,21 +11,21 @@ import (
 	"unicode/utf8"
 )
 
-// What a line may be at most.
+// Limits of a line.
 const (
 	MaximumBytes    = 1 << 20 // of a line, as the engine reads it
 	MaximumKeyBytes = 255     // of a key, in UTF-8
 	MaximumIDBytes  = 4096    // of an id, as JSON
-	MaximumDepth    = 127     // of lists and objects in each other
+	MaximumDepth    = 127     // nesting of lists and objects
 )
 
-// Clients is the number of names that the keys of a partition share: as many as one engine serves.
+// Clients is the number of client names for the keys of a partition, as many as one engine serves.
 const Clients = 64
 
-// NoClient is the client of a line that has no key, a model.
+// NoClient is the client of a line without a key, a model.
 const NoClient = Clients
 
-// ClientNameBytes is the length of every client's name.
+// ClientNameBytes is the length of client names.
 const ClientNameBytes = 3
 
 // A Line is a request or a model.
@@ -33,22 +33,22 @@ type Line struct {
 	Key    []byte // the key as JSON; nil of a model
 	ID     []byte // the id as JSON; nil of a model
 	Client int    // the number of the key's client, or NoClient
-	Engine []byte // the line that the engine is given
+	Engine []byte // the line for the engine
 	hash   uint64
 
 	service, inputs []byte // of a request, as JSON
 }
 
-// ErrShape tells that a text is JSON, but neither a request nor a model.
+// ErrShape means that a text is JSON, but neither a request nor a model.
 var ErrShape = errors.New(`neither {"key":k,"service":s,"inputs":o,"id":x} nor {"model":M}`)
 
-// IsModel tells whether the line is a model, which goes to every partition.
+// IsModel reports whether the line is a model, which goes to every partition.
 func (l Line) IsModel() bool { return l.Client == NoClient }
 
-// Partition is the number of the key's partition, of so many.
+// Partition returns the key's partition among this many.
 func (l Line) Partition(partitions int) int { return int(l.hash % uint64(partitions)) }
 
-// ClientName is the name by which the engine knows a client.
+// ClientName returns a client's name in the engine.
 func ClientName(client int) string { return clientNames[client] }
 
 var clientNames = func() (names [Clients]string) {
@@ -58,7 +58,7 @@ var clientNames = func() (names [Clients]string) {
 	return names
 }()
 
-// ClientNumber is the number of the client with this name, where there is one.
+// ClientNumber returns the number of the client with this name, if there is one.
 func ClientNumber(name []byte) (int, bool) {
 	if len(name) != ClientNameBytes || name[0] != 'n' {
 		return 0, false
@@ -67,8 +67,8 @@ func ClientNumber(name []byte) (int, bool) {
 	return int(number), err == nil && number < Clients
 }
 
-// Read reads one line, without its line end. The first of these faults is told: too long, no UTF-8, no JSON, neither
-// a request nor a model, nested too deep, a key or an id that is too long.
+// Read reads one line without its newline. It reports the first of these faults: too long, not UTF-8, not JSON, neither a
+// request nor a model, nested too deep, a key or id that is too long.
 func Read(text []byte) (Line, error) {
 	l, err := Look(text)
 	if err == nil && !l.IsModel() {
@@ -77,7 +77,7 @@ func Read(text []byte) (Line, error) {
 	return l, err
 }
 
-// Look is Read for who gives no request to an engine: its Engine is nil.
+// Look is Read without the request for the engine: Engine is nil.
 func Look(text []byte) (Line, error) {
 	if l, is := usual(text); is {
 		return l, nil
@@ -85,7 +85,7 @@ func Look(text []byte) (Line, error) {
 	return anyLine(text)
 }
 
-// engine is what the engine is given of a request.
+// engine returns the request for the engine.
 func (l *Line) engine() []byte {
 	const client, service, inputs = `{"client":"`, `","service":`, `,"inputs":`
 	text := make([]byte, 0, len(client)+ClientNameBytes+len(service)+len(l.service)+len(inputs)+len(l.inputs)+1)
@@ -135,10 +135,10 @@ func request(found map[string][]byte) (Line, error) {
 	return l, nil
 }
 
-// join is one text of several.
+// join concatenates texts.
 func join(parts ...[]byte) []byte { return bytes.Join(parts, nil) }
 
-// members finds the members of an object, each with its value as it is spelt. The text is JSON.
+// members returns an object's members, with their values as written. The text is JSON.
 func members(text []byte) (map[string][]byte, error) {
 	if len(text) == 0 || text[0] != '{' {
 		return nil, ErrShape
@@ -172,13 +172,13 @@ func skipSpace(text []byte, at int) int {
 	return at
 }
 
-// ValueEnd is where the JSON value ends that begins here.
+// ValueEnd returns the end of the JSON value that begins at at.
 func ValueEnd(text []byte, at int) int {
 	end, _ := value(text, at)
 	return end
 }
 
-// value finds where the value that begins here ends, and how deep it is nested.
+// value returns the end of the value that begins at at, and its nesting.
 func value(text []byte, at int) (end, deepest int) {
 	depth := 0
 	for at < len(text) {

@@ -83,7 +83,7 @@ func TestClientNames(t *testing.T) {
 	}
 }
 
-// A request of the usual kind is read as any line is. What is read in one pass is changed at random, a byte or two at a time.
+// A usual request is read like any line. Usual requests are changed at random, a byte or two at a time.
 func TestUsualRequests(t *testing.T) {
 	random := rand.New(rand.NewSource(1))
 	bytes := []byte("{}[]\",:\\ \t\n\r0123456789+-.eEtruefalsnbk\x00\x1f/\x7f\xc3\xa9\xff\xed\xa0\x80")

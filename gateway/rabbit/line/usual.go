@@ -6,8 +6,8 @@ import (
 	"unicode/utf8"
 )
 
-// usual reads a request of the usual kind in one pass: its key has no escape, and it has no fault. It says whether the text is
-// one. Read finds the same in any request, and the fault of every other text, but takes several passes.
+// usual reads a usual request in one pass: without a fault or an escape in its key. It reports whether the text is one. Read
+// gives the same result for any request, and the fault of any other text, in several passes.
 func usual(text []byte) (Line, bool) {
 	var l Line
 	if len(text) > MaximumBytes || !utf8.Valid(text) {
@@ -28,13 +28,13 @@ func usual(text []byte) (Line, bool) {
 	return l, true
 }
 
-// place takes the key in.
+// place takes the key.
 func (l *Line) place(name []byte) {
 	digest := sha256.Sum256(name)
 	l.Client, l.hash = int(digest[8]%Clients), binary.BigEndian.Uint64(digest[:8])
 }
 
-// plain is the text of a JSON text without escapes.
+// plain returns the value of a JSON string without escapes.
 func plain(text []byte) ([]byte, bool) {
 	if text[0] != '"' {
 		return nil, false
@@ -47,13 +47,13 @@ func plain(text []byte) ([]byte, bool) {
 	return text[1 : len(text)-1], true
 }
 
-// A scanner reads JSON that is nested at most MaximumDepth deep. Its methods say whether it is there.
+// A scanner reads JSON nested at most MaximumDepth deep. Its methods report whether their syntax is there.
 type scanner struct {
 	text []byte
 	at   int
 }
 
-// members reads an object that has members of a request alone, each once.
+// members reads an object with only members of a request, each once.
 func (s *scanner) members(l *Line) bool {
 	if s.space(); !s.next('{') {
 		return false
@@ -83,7 +83,7 @@ func (s *scanner) members(l *Line) bool {
 	}
 }
 
-// member is where the value of the member with this name belongs, or nil.
+// member returns where the member's value belongs, or nil.
 func (l *Line) member(name []byte) *[]byte {
 	switch string(name) {
 	case `"key"`:
@@ -98,7 +98,7 @@ func (l *Line) member(name []byte) *[]byte {
 	return nil
 }
 
-// next reads this character, if it comes next.
+// next reads this character, if it is next.
 func (s *scanner) next(char byte) bool {
 	is := s.at < len(s.text) && s.text[s.at] == char
 	if is {
@@ -118,7 +118,7 @@ func (s *scanner) space() {
 	}
 }
 
-// value reads a value inside so many lists and objects.
+// value reads a value at this depth.
 func (s *scanner) value(depth int) bool {
 	if s.at >= len(s.text) {
 		return false

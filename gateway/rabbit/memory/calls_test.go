@@ -17,7 +17,7 @@ import (
 	engines "gateway/rabbit/process"
 )
 
-// A steady engine hands over by itself what the one of the histories answers.
+// A steadyEngine hands over answers of the histories' engine by itself.
 type steadyEngine struct {
 	*engine
 	mutex sync.Mutex
@@ -32,7 +32,7 @@ func (e *steadyEngine) Give(lines [][]byte) {
 	go func() { e.answers <- answers }()
 }
 
-// own owns the partitions one after the other, each by a process of its own, until it is told to stop.
+// own owns the partitions one after another, each with its own process, until stopped.
 func own(on *live) (stop func()) {
 	ctx, cancel := context.WithCancel(context.Background())
 	var running sync.WaitGroup
@@ -47,7 +47,7 @@ func own(on *live) (stop func()) {
 	return func() { cancel(); running.Wait() }
 }
 
-// asking begins to ask, by a model that adds 10.
+// asking starts calls with a model that adds 10.
 func asking(t *testing.T, on *live, now func() time.Time) *calls.Calls {
 	t.Helper()
 	c, err := calls.Start(context.Background(), calls.Options{Bus: on, Settings: on.Settings, Log: logs.New(io.Discard, "test"),
@@ -58,7 +58,7 @@ func asking(t *testing.T, on *live, now func() time.Time) *calls.Calls {
 	return c
 }
 
-// put puts a call of one request in, and gives where its answer comes.
+// put sends a call with one request, and returns the channel of its answer.
 func put(t *testing.T, c *calls.Calls, id string, number int) <-chan asked.Outcome {
 	t.Helper()
 	outcomes := make(chan asked.Outcome, 2)
@@ -78,8 +78,8 @@ func end(t *testing.T, c *calls.Calls) {
 	}
 }
 
-// A call is answered; one that is put in while nobody owns the partition waits, and is answered by who owns it next: once, in order,
-// and also to a process that is started later.
+// A call is answered. One sent while nobody owns the partition waits, and the next owner answers it: once, in order, and also
+// to a process that starts later.
 func TestCallsAreAnsweredAfterATakeover(t *testing.T) {
 	on := newLive(1, -1)
 	c := asking(t, on, nil)
@@ -114,7 +114,7 @@ func TestCallsAreAnsweredAfterATakeover(t *testing.T) {
 	}
 }
 
-// Answers are forgotten after a while, and requests that nobody answers have an outcome then.
+// Answers are forgotten after a while, and unanswered requests then get an outcome.
 func TestCallsAreForgotten(t *testing.T) {
 	on := newLive(1, -1)
 	var mutex sync.Mutex

@@ -11,19 +11,19 @@ import (
 	"gateway/rabbit/rescale"
 )
 
-// changing is a process that changes the number of partitions.
+// A changing is a process that changes the number of partitions.
 type changing struct {
 	*rescale.Change
 	link     bus.Link
 	declared bool
-	closed   int // so many logs are
+	closed   int // how many logs are closed
 	left     bool
 }
 
-// mostChanges is how often the number of partitions changes.
+// mostChanges limits the changes.
 const mostChanges = 4
 
-// moveChange begins a change, goes on with it by one step, or kills the process that is at it.
+// moveChange begins a change, continues it by one step, or kills its process.
 func (w *world) moveChange() error {
 	c := w.change
 	if c == nil {
@@ -87,7 +87,7 @@ func (w *world) beginChange() error {
 	return nil
 }
 
-// finishChange goes on with a change that is under way, to its end.
+// finishChange finishes a running change.
 func (w *world) finishChange() error {
 	w.change = nil
 	for scaling := w.scaling(); scaling.Open; scaling = w.scaling() {
@@ -104,7 +104,8 @@ func (w *world) finishChange() error {
 	return nil
 }
 
-// isOver says of an owner's error whether its partition is answered for good, and isUnbegun whether a partition can't begin yet.
+// isOver reports whether an owner's error means that its partition is answered for good, isUnbegun that a partition can't begin
+// yet.
 func isOver(err error) bool {
 	return strings.Contains(err.Error(), "all its lines are answered, and others follow")
 }
@@ -113,7 +114,7 @@ func isUnbegun(err error) bool {
 	return strings.Contains(err.Error(), "it begins once partitions") || strings.Contains(err.Error(), "it has not begun")
 }
 
-// anyPartition is one of those that there are or were.
+// anyPartition returns a current or earlier partition.
 func (w *world) anyPartition() bus.Partition {
 	all := w.scaling().All
 	of := all[w.random.Intn(len(all))]
@@ -123,7 +124,7 @@ func (w *world) anyPartition() bus.Partition {
 	return of.Each()[w.random.Intn(of.Partitions)]
 }
 
-// mostOwners is how many owners there are at most: two of a partition now and then.
+// mostOwners limits the owners: now and then two of a partition.
 func (w *world) mostOwners() int {
 	if !w.rescales {
 		return 2
@@ -131,7 +132,7 @@ func (w *world) mostOwners() int {
 	return 6
 }
 
-// withoutSections takes what closed partitions took of batches out of a snapshot.
+// withoutSections removes sections of batches from a snapshot.
 func withoutSections(message bus.Message) bus.Message {
 	return altered(message, func(l *ledger.Ledger) {
 		for _, sender := range l.Senders.All() {

@@ -16,7 +16,7 @@ import (
 	"gateway/rabbit/sender"
 )
 
-// A hiding bus says of the answers of one number of partitions that they aren't there, until it shows them, and counts how often.
+// A hiding bus pretends that the answers of one number of partitions are missing, until it shows them, and counts how often.
 type hiding struct {
 	*live
 	of     bus.Settings
@@ -44,8 +44,8 @@ func (l hidingLink) Read(what bus.Reading) (bus.Reader, error) {
 	return l.Link.Read(what)
 }
 
-// A receiver that has read the partitions of before leaves out none of the answers that follow, also where their streams aren't there
-// for a while and there is a later number of partitions since.
+// A receiver that has read the earlier partitions misses no later answers, even if their streams are missing for a while and
+// there is a later number of partitions.
 func TestAReceiverLeavesNoPartitionOut(t *testing.T) {
 	const count = 20
 	on := newLive(2, -1)

@@ -13,28 +13,28 @@ import (
 	"gateway/rabbit/ledger"
 )
 
-// historySteps is how long a history is.
+// historySteps is the length of a history.
 const historySteps = 400
 
-// historiesVariable says how many histories are tried of each kind; without it histories are.
+// historiesVariable is how many histories of each kind are tried; the default is histories.
 const (
 	historiesVariable = "DESK_TEST_HISTORIES"
 	histories         = 60
 )
 
-// A checker reads the answers as a receiver does, and believes nobody.
+// A checker reads the answers as a receiver does, and trusts nobody.
 type checker struct {
 	*world
 	parts    map[bus.Partition]*part
 	counts   map[int]int       // how often each request was answered
-	byKey    map[string]int    // of each batch and key, the last line that was answered
-	received map[counted]int64 // of each process, how many of its requests count; its sent isn't set
+	byKey    map[string]int    // the last answered line of each batch and key
+	received map[counted]int64 // how many requests of each process count; its sent isn't set
 	models   map[counted]map[int]bool
-	lost     bool // whether something was lost so far: then a line may be refused since its model is
+	lost     bool // whether something is lost so far: then a line may be refused because its model is
 	gaps     []ledger.Gap
 }
 
-// A part is what the answers of one partition say.
+// A part is what one partition's answers say.
 type part struct {
 	*checker
 	at      bus.Partition
@@ -43,14 +43,14 @@ type part struct {
 	written [][]byte              // the answers that count
 	last    map[batch]int
 	models  map[int]bool
-	started map[batch][]int // of each batch, the addends of which one is in force at its first line, or where it goes on
+	started map[batch][]int // for each batch, the addends of which one applies at its first line, or where it continues
 	inForce int             // the addend, or 0
 	tickets map[string]int64
-	firsts  [][]byte // the snapshots before the first line, which are all the same
+	firsts  [][]byte // the snapshots before the first line, all the same
 	lasts   [][]byte // and those at the end
 }
 
-// check reports the first thing that is wrong.
+// check returns the first fault.
 func (w *world) check() error {
 	c := &checker{world: w, parts: map[bus.Partition]*part{}, counts: map[int]int{}, byKey: map[string]int{}, received: map[counted]int64{},
 		models: map[counted]map[int]bool{}}
@@ -69,7 +69,7 @@ func (w *world) check() error {
 	return c.isReceived()
 }
 
-// begin is a partition before its first line.
+// begin returns a partition before its first line.
 func (c *checker) begin(at bus.Partition, before bus.Settings) *part {
 	p := &part{checker: c, at: at, last: map[batch]int{}, models: map[int]bool{}, started: map[batch][]int{}, tickets: map[string]int64{},
 		log: map[int64]bus.Message{}}
@@ -154,7 +154,7 @@ type simAnswer struct {
 	}
 }
 
-// take takes in a line of the answers.
+// take takes a line of the answers.
 func (p *part) take(text []byte) error {
 	var read simAnswer
 	if err := json.Unmarshal(bytes.Replace(text, []byte(`"model":true`), []byte(`"model":1`), 1), &read); err != nil {
@@ -181,7 +181,7 @@ func (p *part) take(text []byte) error {
 	return p.compare(number, read)
 }
 
-// count counts a line that is answered.
+// count counts an answered line.
 func (p *part) count(number int, place ledger.Place) error {
 	sent := p.texts[number]
 	from, err := bus.ReadOrigin(p.log[place.Offset])
@@ -212,7 +212,7 @@ func (p *part) count(number int, place ledger.Place) error {
 	return nil
 }
 
-// compare compares an answer with what is due to the line.
+// compare compares an answer with the expected one.
 func (p *part) compare(number int, read simAnswer) error {
 	sent := p.texts[number]
 	if last, is := p.last[sent.of]; is && last >= sent.index {
@@ -239,7 +239,7 @@ func (p *part) compare(number int, read simAnswer) error {
 	return nil
 }
 
-// isDue says whether an answer is that of a model with one of these addends.
+// isDue reports whether an answer fits a model with one of these addends.
 func (p *part) isDue(addends []int, number int, read simAnswer) bool {
 	if read.Answer.Refused == "lost" && p.retention {
 		return true
@@ -255,8 +255,7 @@ func (p *part) isDue(addends []int, number int, read simAnswer) bool {
 	return false
 }
 
-// due are the addends of the model that decides a request: the last of its batch before it, or the one in force at the batch's
-// first line.
+// due returns the addends of the model for a request: the last before it in its batch, or the one at the batch's first line.
 func (p *part) due(sent line) []int {
 	for index := sent.index; index >= 0; index-- {
 		if addend := p.texts[p.inputs[sent.of][index]].addend; addend > 0 {
@@ -266,8 +265,8 @@ func (p *part) due(sent line) []int {
 	return p.started[sent.of]
 }
 
-// complete reports a line that a sender said it had sent, and that has no answer, and isn't said to be lost; and a process of which
-// others count than it said.
+// complete reports a line that a sender reported as sent and that has no answer and isn't reported lost; and a process with
+// another count than it reported.
 func (c *checker) complete() error {
 	at := map[int][]int64{}
 	for _, p := range c.parts {
@@ -280,7 +279,7 @@ func (c *checker) complete() error {
 			}
 		}
 	}
-	for number := range c.told {
+	for number := range c.reported {
 		isAnswered := c.counts[number] > 0
 		for _, p := range c.parts {
 			isAnswered = isAnswered || p.models[number]
@@ -299,14 +298,14 @@ func (c *checker) complete() error {
 	return nil
 }
 
-// isReceived reports if a receiver, however often it was killed, has not written each answer that counts once, and in order.
+// isReceived reports if a receiver, however often it was killed, hasn't written each answer that counts once and in order.
 func (c *checker) isReceived() error {
 	text, err := os.ReadFile(c.output())
 	if err != nil {
 		return err
 	}
 	found := map[bus.Partition][]byte{}
-	epochs := map[string]int64{} // of each key, the last number of partitions under which it was answered
+	epochs := map[string]int64{} // the last number of partitions under which each key was answered
 	for _, written := range bytes.SplitAfter(text, []byte("\n")) {
 		var read struct {
 			Partition int
@@ -342,7 +341,7 @@ func (c *checker) isReceived() error {
 	return nil
 }
 
-// isLost says whether one of these offsets is said to be lost, or was cut alone.
+// isLost reports whether one of these offsets is reported lost, or was cut by itself.
 func (c *checker) isLost(offsets []int64) bool {
 	for _, offset := range offsets {
 		if c.singles[offset] {
@@ -374,7 +373,7 @@ func (w *world) try(steps int) error {
 	return w.check()
 }
 
-// triedRescales runs a history in which the number of partitions changes.
+// triedRescales runs a history with changes of the number of partitions.
 func triedRescales(folder string, seed int64, flaws flaws) (*world, error) {
 	w := newWorldOf(folder, seed, bus.Settings{Partitions: 1 + int(seed)%4}, false, flaws)
 	w.rescales = true
@@ -392,7 +391,7 @@ func count(t *testing.T) int64 {
 	return histories
 }
 
-// memoryFolder is a folder in memory, where there is one.
+// memoryFolder returns a folder in memory, if there is one.
 func memoryFolder(t *testing.T) string {
 	folder, err := os.MkdirTemp("/dev/shm", "desk")
 	if err != nil {
@@ -402,23 +401,23 @@ func memoryFolder(t *testing.T) string {
 	return folder
 }
 
-// Whatever brokers, network and processes do, what senders said they had sent is answered once, in order and by the right model.
+// Whatever brokers, network and processes do, what senders reported as sent is answered once, in order and by the right model.
 func TestHistories(t *testing.T) {
 	folder := memoryFolder(t)
 	for _, retention := range []bool{false, true} {
-		answered, told, cut := 0, 0, 0
+		answered, reported, cut := 0, 0, 0
 		for seed := int64(0); seed < count(t); seed++ {
 			w, err := tried(folder, seed, retention, flaws{})
 			if err != nil {
 				t.Fatalf("seed %d, retention %v: %v", seed, retention, err)
 			}
-			answered, told, cut = answered+len(w.answers().Messages), told+len(w.told), cut+w.lines().Cut
+			answered, reported, cut = answered+len(w.answers().Messages), reported+len(w.reported), cut+w.lines().Cut
 		}
-		t.Logf("retention %v: %d messages of answers, %d lines told as sent, %d messages cut", retention, answered, told, cut)
+		t.Logf("retention %v: %d messages of answers, %d lines told as sent, %d messages cut", retention, answered, reported, cut)
 	}
 }
 
-// The checker finds what goes wrong if a process doesn't look for newer ones, without batches, and if senders are forgotten.
+// The checker finds the faults of a process that doesn't look for newer ones, of missing batches, and of forgotten senders.
 func TestHistoriesWithFlaws(t *testing.T) {
 	folder := memoryFolder(t)
 	for name, flaws := range map[string]flaws{"no look for newer processes": {noLook: true}, "no batches": {noBatches: true}, "no senders": {noSenders: true}} {
@@ -435,22 +434,22 @@ func TestHistoriesWithFlaws(t *testing.T) {
 	}
 }
 
-// While the number of partitions changes, and whoever is at it is killed, what senders said they had sent is answered once, in the
-// order of its key and by the right model; tickets go on; and a batch that is sent again has each line once.
+// While the number of partitions changes, and processes that change it are killed, what senders reported as sent is answered
+// once, in key order and by the right model; tickets continue; and a batch sent again has each line once.
 func TestRescaleHistories(t *testing.T) {
 	folder := memoryFolder(t)
-	answered, told, changes := 0, 0, 0
+	answered, reported, changes := 0, 0, 0
 	for seed := int64(0); seed < count(t); seed++ {
 		w, err := triedRescales(folder, seed, flaws{})
 		if err != nil {
 			t.Fatalf("seed %d: %v", seed, err)
 		}
-		answered, told, changes = answered+len(w.answers().Messages), told+len(w.told), changes+len(w.scaling().All)-1
+		answered, reported, changes = answered+len(w.answers().Messages), reported+len(w.reported), changes+len(w.scaling().All)-1
 	}
-	t.Logf("%d messages of answers of the first partition, %d lines told as sent, %d changes", answered, told, changes)
+	t.Logf("%d messages of answers of the first partition, %d lines told as sent, %d changes", answered, reported, changes)
 }
 
-// The checker finds what goes wrong if a sender doesn't look at the number of partitions, and without the sections of batches.
+// The checker finds the faults of a sender that doesn't look at the number of partitions, and of batches without sections.
 func TestRescaleHistoriesWithFlaws(t *testing.T) {
 	folder := memoryFolder(t)
 	for name, flaws := range map[string]flaws{"no look at the number": {noScale: true}, "no sections": {noSections: true}} {

@@ -13,13 +13,13 @@ import (
 	"gateway/rabbit/memory"
 )
 
-// A live bus hands over by itself what the one in memory has, and loses nothing, so that whole programs run over it. One
-// partition may be sick: what is asked of its streams fails.
+// A live bus hands over by itself what the bus in memory has, and loses nothing, so that whole programs run on it. One
+// partition may be sick: requests to its streams fail.
 type live struct {
 	*memory.Bus
 	mutex sync.Mutex
 	sick  int                         // the number of a partition, or -1
-	owned map[bus.Partition]*liveLink // who owned each last
+	owned map[bus.Partition]*liveLink // the last owner of each
 }
 
 var errSick = errors.New("the stream is down")
@@ -30,7 +30,7 @@ func newLive(partitions, sick int) *live {
 	return &live{Bus: b, sick: sick, owned: map[bus.Partition]*liveLink{}}
 }
 
-// heal makes the sick partition well.
+// heal makes the sick partition work again.
 func (l *live) heal() { l.with(func() { l.sick = -1 }) }
 
 func (l *live) with(work func()) {
@@ -39,7 +39,7 @@ func (l *live) with(work func()) {
 	work()
 }
 
-// isSick says of a stream, or of a route's key, whether it is one of the sick partition.
+// isSick reports whether a stream, or a route's key, belongs to the sick partition.
 func (l *live) isSick(name string) bool {
 	return strings.Contains(name, fmt.Sprintf(".%d.of.", l.sick))
 }
@@ -50,7 +50,7 @@ func (l *live) declare(_ context.Context, settings bus.Settings) error {
 	return nil
 }
 
-// leave leads no more lines to the logs of partitions.
+// leave unbinds the logs of partitions.
 func (l *live) leave(_ context.Context, settings bus.Settings) error {
 	l.with(func() { l.Leave(settings) })
 	return nil
@@ -81,7 +81,7 @@ func (l *liveLink) Own(ctx context.Context, partitions []bus.Partition, _ func([
 	}
 }
 
-// bodies are those of the messages of a stream that have one.
+// bodies returns the non-empty bodies of a stream's messages.
 func (l *live) bodies(stream string) (found []string) {
 	l.with(func() {
 		for _, message := range l.Stream(stream).Messages {
@@ -140,7 +140,7 @@ func (l *liveLink) work(ctx context.Context) {
 	}
 }
 
-// isFree says whether each reader has taken what was handed over.
+// isFree reports whether each reader has taken what was handed over.
 func (l *liveLink) isFree() bool {
 	for _, r := range l.readers {
 		if len(r.Arrivals()) > 0 {
@@ -203,7 +203,7 @@ func (r *liveReader) Next() (bus.Message, error) {
 	}
 }
 
-// Close ends the reader, and drops what it was handed last.
+// Close ends the reader, and drops the last message that it got.
 func (r *liveReader) Close() (err error) {
 	r.link.bus.with(func() {
 		err = r.Reader.Close()

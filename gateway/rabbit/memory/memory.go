@@ -1,6 +1,6 @@
-// Package memory is a bus in memory. A seeded scheduler decides what becomes of each message: it is in its stream and confirmed,
-// or there without a confirm, or comes later, or never; and what retention cuts. It hands nothing over by itself: whoever moves
-// a process lets its link have a confirm or a message, one at a time, so a history is the same each time.
+// Package memory is a bus in memory. A seeded scheduler decides what happens to each message: it is in its stream and
+// confirmed, or there without a confirm, or comes later, or never; and what retention cuts. It delivers nothing by itself: the
+// mover of a process lets its link have one confirm or message at a time, so a history is reproducible.
 package memory
 
 import (
@@ -13,31 +13,31 @@ import (
 	"gateway/rabbit/bus"
 )
 
-// A Bus is one in memory.
+// A Bus is a bus in memory.
 type Bus struct {
 	Settings bus.Settings
 	Clock    time.Time
 	Steady   bool // whether nothing fails any more
-	// Older says that an older program declared the partitions, so that no stream says how many there are.
+	// Older means that an older program declared the partitions, so no stream has their number.
 	Older bool
-	// Rewrite changes what is appended, and Alter what is read; nil changes nothing. With them a test leaves out a rule.
+	// Rewrite changes what is appended, Alter what is read; nil changes nothing. Tests use them to break a rule.
 	Rewrite func(bus.Route, bus.Headers) bus.Headers
 	Alter   func(bus.Message) bus.Message
 	random  *rand.Rand
 	streams map[string]*Stream
 	led     map[bus.Route][]string // the streams to which each route leads
-	late    []func()               // appends messages that come later
+	late    []func()               // appends late messages
 }
 
-// A Stream has all messages that there ever were. Those before Cut are cut.
+// A Stream has all messages ever appended. Those before Cut are cut.
 type Stream struct {
 	Messages []bus.Message
 	Cut      int
 	next     int64 // the next offset
 }
 
-// New is a bus with empty streams, but for a mark in each stream of answers, and how many partitions there are. All is decided by
-// the seed.
+// New returns a bus with empty streams, except for a mark in each answer stream and the number of partitions. The seed decides
+// everything.
 func New(random *rand.Rand, settings bus.Settings) *Bus {
 	b := &Bus{Settings: settings, Clock: time.Unix(1_700_000_000, 0), random: random, streams: map[string]*Stream{}, led: map[bus.Route][]string{}}
 	b.Declare(settings)
@@ -45,7 +45,7 @@ func New(random *rand.Rand, settings bus.Settings) *Bus {
 	return b
 }
 
-// Declare makes the streams of partitions where they aren't there.
+// Declare makes the missing streams of partitions.
 func (b *Bus) Declare(settings bus.Settings) {
 	for _, partition := range settings.Each() {
 		for _, binding := range settings.Bindings(partition.Number) {
@@ -56,7 +56,7 @@ func (b *Bus) Declare(settings bus.Settings) {
 	}
 }
 
-// Leave leads no more lines to the logs of partitions.
+// Leave unbinds the logs of partitions.
 func (b *Bus) Leave(settings bus.Settings) {
 	for _, partition := range settings.Each() {
 		for _, topic := range []bus.Topic{bus.TopicLines, bus.TopicModels} {
@@ -65,7 +65,7 @@ func (b *Bus) Leave(settings bus.Settings) {
 	}
 }
 
-// lead leads messages of a route to a stream.
+// lead binds a route to a stream.
 func (b *Bus) lead(binding bus.Binding) {
 	for _, queue := range b.led[binding.Route] {
 		if queue == binding.Queue {
@@ -75,7 +75,7 @@ func (b *Bus) lead(binding bus.Binding) {
 	b.led[binding.Route] = append(b.led[binding.Route], binding.Queue)
 }
 
-// Stream is the stream of this name.
+// Stream returns the stream of this name.
 func (b *Bus) Stream(name string) *Stream {
 	if b.streams[name] == nil {
 		b.streams[name] = &Stream{}
@@ -83,15 +83,15 @@ func (b *Bus) Stream(name string) *Stream {
 	return b.streams[name]
 }
 
-// IsMissing says whether a stream isn't there.
+// IsMissing reports whether a stream is missing.
 func (b *Bus) IsMissing(name string) bool {
 	return b.streams[name] == nil || b.Older && name == bus.Scale
 }
 
-// Chance is true once in so many times.
+// Chance is true once in of times.
 func (b *Bus) Chance(of int) bool { return b.random.Intn(of) == 0 }
 
-// append appends a message to the streams of its route. The bus takes an offset for itself now and then, as RabbitMQ does.
+// append appends a message to the streams of its route. Like RabbitMQ, the bus uses an offset itself now and then.
 func (b *Bus) append(to bus.Route, headers bus.Headers, body []byte) {
 	b.Clock = b.Clock.Add(time.Second)
 	for _, queue := range b.led[to] {
@@ -104,10 +104,10 @@ func (b *Bus) append(to bus.Route, headers bus.Headers, body []byte) {
 	}
 }
 
-// Late says how many messages come later, and Come lets the first of them come.
+// Late returns how many messages come later; Come lets the first of them come.
 func (b *Bus) Late() int { return len(b.late) }
 
-// Come lets the first message that comes later come.
+// Come appends the first late message.
 func (b *Bus) Come() {
 	first := b.late[0]
 	b.late = b.late[1:]
@@ -119,7 +119,7 @@ func (b *Bus) Connect(ctx context.Context, name, last string) (bus.Link, error) 
 	return &Link{bus: b, done: make(chan struct{})}, nil
 }
 
-// Judge says that each failure may pass, but where a stream isn't there.
+// Judge lets each failure pass, except a missing stream.
 func (b *Bus) Judge(failure error) bus.Judgement {
 	if errors.Is(failure, bus.ErrMissing) {
 		return bus.Missing
@@ -127,10 +127,10 @@ func (b *Bus) Judge(failure error) bus.Judgement {
 	return bus.Passing
 }
 
-// Pause lets time pass.
+// Pause advances the clock.
 func (b *Bus) Pause(_ context.Context, long time.Duration) { b.Clock = b.Clock.Add(long) }
 
-// ErrLink says that a connection was lost.
+// ErrLink means that a connection was lost.
 var ErrLink = errors.New("the connection was lost")
 
 // A Link is a connection.
@@ -185,7 +185,7 @@ func min(a, b int) int {
 	return b
 }
 
-// First is the offset of the first message that is left.
+// First returns the offset of the first message that is left.
 func (l *Link) First(stream string) (int64, error) {
 	s := l.bus.Stream(stream)
 	if l.err != nil || len(s.Messages) == s.Cut {
@@ -197,27 +197,27 @@ func (l *Link) First(stream string) (int64, error) {
 // End watches the end of a stream.
 func (l *Link) End(stream string) (bus.End, error) { return l.bus.Stream(stream), l.err }
 
-// Offset is that of the last message.
+// Offset returns the offset of the last message.
 func (s *Stream) Offset() (int64, error) { return s.next - 1, nil }
 
 // AtMost has nothing to correct.
 func (s *Stream) AtMost(int64) {}
 
-// Own gives one of the partitions, whoever else owns it.
+// Own returns one of the partitions, no matter who else owns it.
 func (l *Link) Own(_ context.Context, partitions []bus.Partition, _ func([]bus.Partition)) (bus.Partition, error) {
 	return partitions[l.bus.random.Intn(len(partitions))], l.err
 }
 
-// Address is where the link leads to.
+// Address returns where the link leads to.
 func (l *Link) Address() string { return "memory" }
 
-// Done is closed once the link has ended.
+// Done returns a channel that is closed once the link has ended.
 func (l *Link) Done() <-chan struct{} { return l.done }
 
-// Err is why the link ended.
+// Err returns why the link ended.
 func (l *Link) Err() error { return l.err }
 
-// Fail ends the link. What is without a confirm is there, comes later, or never.
+// Fail ends the link. Unconfirmed messages are there, come later, or never.
 func (l *Link) Fail(reason error) {
 	if l.err != nil {
 		return
@@ -234,18 +234,18 @@ func (l *Link) Fail(reason error) {
 // Close ends the link.
 func (l *Link) Close() { l.Fail(errors.New("it was closed")) }
 
-// lose decides what becomes of a message whose link has ended.
+// lose decides what happens to a message whose link has ended.
 func (b *Bus) lose(m appended) {
 	named, isLine := m.headers["named"].(bool)
 	switch choice := b.random.Intn(3); {
 	case choice == 0:
 		b.append(m.to, m.headers, m.body)
-	case choice == 1 && !b.Steady && (named || !isLine): // a sender without a name of its own isn't known any more after its end
+	case choice == 1 && !b.Steady && (named || !isLine): // a sender without a name is forgotten after its end
 		b.late = append(b.late, func() { b.append(m.to, m.headers, m.body) })
 	}
 }
 
-// Confirm lets the first message without a confirm be appended and have its confirm, or lets the link be lost.
+// Confirm appends and confirms the first unconfirmed message, or the link is lost.
 func (l *Link) Confirm(lost int) {
 	for _, a := range l.appenders {
 		if a.waits() {
@@ -255,7 +255,7 @@ func (l *Link) Confirm(lost int) {
 	}
 }
 
-// Waits says whether a message is without a confirm.
+// Waits reports whether a message is unconfirmed.
 func (l *Link) Waits() bool {
 	for _, a := range l.appenders {
 		if l.err == nil && a.waits() {
@@ -265,7 +265,7 @@ func (l *Link) Waits() bool {
 	return false
 }
 
-// IsTold says whether the link has ended, or has a confirm that wasn't taken in.
+// IsTold reports whether the link has ended, or has a confirm that wasn't taken.
 func (l *Link) IsTold() bool {
 	for _, a := range l.appenders {
 		if a.confirmed > 0 {
@@ -275,7 +275,7 @@ func (l *Link) IsTold() bool {
 	return l.err != nil
 }
 
-// Due says whether a message is there for a reader of the link.
+// Due reports whether there is a message for a reader of the link.
 func (l *Link) Due() bool {
 	for _, r := range l.readers {
 		if l.err == nil && !r.closed && r.at() < len(r.stream.Messages) {
@@ -285,7 +285,7 @@ func (l *Link) Due() bool {
 	return false
 }
 
-// Deliver hands the reader of the link its next message.
+// Deliver gives the link's reader its next message.
 func (l *Link) Deliver() {
 	for _, r := range l.readers {
 		if !r.closed && r.at() < len(r.stream.Messages) {
@@ -305,11 +305,11 @@ type appended struct {
 type Appender struct {
 	link      *Link
 	open      []appended
-	confirmed int // so many of the first open ones have their confirm, which isn't taken in yet
+	confirmed int // how many of the first open messages have a confirm that isn't taken yet
 	confirms  chan error
 }
 
-// waits says whether a message is without a confirm, and each confirm before is taken in.
+// waits reports whether a message is unconfirmed and each confirm before it is taken.
 func (a *Appender) waits() bool { return len(a.open) > 0 && a.confirmed == 0 }
 
 // Append appends a message, soon.
@@ -328,7 +328,7 @@ func (a *Appender) Append(to bus.Route, headers bus.Headers, body []byte) error 
 	return nil
 }
 
-// one appends the first message and confirms it, or loses the link, once in so many times.
+// one appends and confirms the first message, or loses the link, once in lost times.
 func (a *Appender) one(lost int) {
 	if !a.link.bus.Steady && a.link.bus.Chance(lost) {
 		a.link.Fail(ErrLink)
@@ -344,19 +344,19 @@ func (a *Appender) one(lost int) {
 	a.confirms <- nil
 }
 
-// Open is how many messages are without a confirm.
+// Open returns how many messages are unconfirmed.
 func (a *Appender) Open() int { return len(a.open) }
 
 // Confirms has a value for each message.
 func (a *Appender) Confirms() <-chan error { return a.confirms }
 
-// Take takes a confirm in.
+// Take takes a confirm.
 func (a *Appender) Take(confirm error, _ bool) error {
 	a.open, a.confirmed = a.open[1:], a.confirmed-1
 	return confirm
 }
 
-// seldom is how seldom a link is lost while something is waited for.
+// seldom is how rarely a link is lost during a wait.
 const seldom = 60
 
 // Settle waits until all messages are confirmed.
@@ -375,7 +375,7 @@ func (a *Appender) Settle() error {
 	return nil
 }
 
-// Late says that no message waits for too long.
+// Late never reports a late message.
 func (a *Appender) Late() error { return nil }
 
 // Close ends the appender.
@@ -390,7 +390,7 @@ type Reader struct {
 	closed   bool
 }
 
-// at is the number of the next message that is left, or how many there are.
+// at returns the index of the next message that is left, or their number.
 func (r *Reader) at() int {
 	at := len(r.stream.Messages)
 	for at > r.stream.Cut && r.stream.Messages[at-1].Offset >= r.next {
@@ -416,10 +416,10 @@ func (r *Reader) take() bus.Message {
 // Arrivals has what is delivered.
 func (r *Reader) Arrivals() <-chan bus.Message { return r.arrivals }
 
-// Ended is why no more comes.
+// Ended returns why no more comes.
 func (r *Reader) Ended() error { return r.link.err }
 
-// Next gives the next message. Where none is there, what its link has appended comes, or the link is lost.
+// Next returns the next message. If there is none, what its link has appended comes, or the link is lost.
 func (r *Reader) Next() (bus.Message, error) {
 	if r.link.err == nil && !r.link.bus.Steady && r.link.bus.Chance(10*seldom) {
 		r.link.Fail(ErrLink)

@@ -27,13 +27,13 @@ type owner struct {
 	link   *memory.Link
 	engine *engine
 	ticks  chan time.Time
-	left   int // how often it may still find that a snapshot is due, once nothing else is to be done
+	left   int // how often it may still find that a snapshot is due, once there is nothing else to do
 }
 
-// looks is how often an owner looks at the time, once nothing else is to be done.
+// looks is how often an owner looks at the time, once there is nothing else to do.
 const looks = 3
 
-// takeOver takes a partition over, and notes which messages were cut alone.
+// takeOver takes a partition over, and notes which messages were cut by themselves.
 func (w *world) takeOver(partition bus.Partition) (*owner, error) {
 	link, err := w.Connect(context.Background(), "", "")
 	if err != nil {
@@ -70,7 +70,7 @@ func (w *world) kill(at int) {
 	w.owners = append(w.owners[:at], w.owners[at+1:]...)
 }
 
-// move lets the owner read a message, hear of an answer or a confirm, or find that a snapshot may be due.
+// move lets the owner read a message, get an answer or a confirm, or find that a snapshot may be due.
 func (o *owner) move(what int) error {
 	switch {
 	case what == 0:
@@ -93,7 +93,7 @@ func (o *owner) move(what int) error {
 	return o.Step()
 }
 
-// isBusy says whether the owner has something to do. What it has done may let it do more once it looks at the time.
+// isBusy reports whether the owner has something to do. A look at the time may give it more.
 func (o *owner) isBusy() bool {
 	if o.link.Waits() || o.link.Due() || o.engine != nil && !o.engine.ended && len(o.engine.waiting) > 0 {
 		o.left = looks
@@ -101,7 +101,7 @@ func (o *owner) isBusy() bool {
 	return o.left > 0
 }
 
-// noteSingles notes messages that were cut alone, before the first one that is left.
+// noteSingles notes messages that were cut by themselves, before the first one left.
 func (o *owner) noteSingles() {
 	lines := o.world.lines()
 	if lines.Cut > 0 && lines.Cut < len(lines.Messages) {
@@ -109,7 +109,7 @@ func (o *owner) noteSingles() {
 	}
 }
 
-// An engine answers as one with one worker does: to a request three times its number and the addend of the model.
+// An engine answers as one with one worker does: a request gets three times its number plus the model's addend.
 type engine struct {
 	addend  int
 	lines   int64
@@ -130,7 +130,7 @@ func (e *engine) Give(lines [][]byte) {
 	}
 }
 
-// hand hands so many answers over.
+// hand hands over count answers.
 func (e *engine) hand(count int) {
 	e.answers <- e.waiting[:count]
 	e.waiting = e.waiting[count:]
@@ -158,7 +158,7 @@ func (e *engine) answer(text []byte) string {
 	return fmt.Sprintf(`{"client":"%s","result":%d,"ticket":%d}`, read.Client, read.Inputs.A*3+e.addend, e.tickets[read.Client]-1)
 }
 
-// A receiving is a process of desk receive, with its connections.
+// A receiving is a process of desk receive with its connections.
 type receiving struct {
 	*receiver.Receiver
 	output  *os.File

@@ -22,7 +22,7 @@ import (
 	"gateway/rabbit/sender"
 )
 
-// requests are so many, and how many of them belong to each partition.
+// requests returns count requests, and how many of them belong to each partition.
 func requests(t *testing.T, count, partitions int) (text string, of []int) {
 	t.Helper()
 	of = make([]int, partitions)
@@ -38,22 +38,22 @@ func requests(t *testing.T, count, partitions int) (text string, of []int) {
 	return text, of
 }
 
-// sending is what desk send does with this input.
+// sending returns the options of desk send with this input.
 func sending(on *live, name, batch string, input io.Reader) sender.Options {
 	return sender.Options{Bus: on, Settings: on.Settings, Name: name, Named: true, Batch: batch, GiveUp: time.Nanosecond, Input: input,
 		Log: logs.New(io.Discard, "test"), Check: func([]byte) error { return nil }, Gauges: sender.NewGauges()}
 }
 
-// until waits until it is so; the test's own deadline ends it.
+// until waits until is is true; the test's deadline ends it.
 func until(is func() bool) {
 	for !is() {
 		time.Sleep(time.Millisecond)
 	}
 }
 
-// The lines of all partitions but a sick one are sent, and the others are counted and told. Sent again once it is well, the batch has
-// each line once.
-func TestASenderBesideASickPartition(t *testing.T) {
+// The lines of all partitions but a sick one are sent, and the others are counted and reported. Sent again once it works, the
+// batch has each line once.
+func TestASenderWithASickPartition(t *testing.T) {
 	const count, partitions, sick = 400, 4, 3
 	on := newLive(partitions, sick)
 	text, of := requests(t, count, partitions)
@@ -79,7 +79,7 @@ func TestASenderBesideASickPartition(t *testing.T) {
 	}
 }
 
-// A new process under a name ends the one before, which reports how many of its lines were taken: those of before.
+// A new process under a name ends the one before, which reports how many of its lines were taken.
 func TestANewerProcessEndsTheOlder(t *testing.T) {
 	on := newLive(2, -1)
 	text, _ := requests(t, 20, 2)
@@ -115,7 +115,7 @@ func TestANewerProcessEndsTheOlder(t *testing.T) {
 	}
 }
 
-// A message has one copy while it may be confirmed, and a second one only once its connection is lost.
+// A message has one copy while it may be confirmed, and a second one only after its connection is lost.
 func TestAMessageIsPublishedAgainOnceItsConfirmIsLost(t *testing.T) {
 	b := memory.New(rand.New(rand.NewSource(1)), settings)
 	b.Steady = true
@@ -151,8 +151,9 @@ func TestAMessageIsPublishedAgainOnceItsConfirmIsLost(t *testing.T) {
 	}
 }
 
-// Where the answers of a partition can't be read, those of the others are written, and it is told. Once it is well, so are its own.
-func TestAReceiverBesideASickPartition(t *testing.T) {
+// If a partition's answers can't be read, those of the others are written and the failure is reported. Once it works, so are
+// its own.
+func TestAReceiverWithASickPartition(t *testing.T) {
 	on := newLive(2, 1)
 	for partition := 0; partition < 2; partition++ {
 		b, part := on.Bus, bus.Part{After: ledger.Start, Upto: ledger.Place{Offset: 0}}

@@ -19,7 +19,7 @@ import (
 	"gateway/rabbit/sender"
 )
 
-// watching is a watch over how many partitions there are, which ends with the test.
+// watching returns a watch of the number of partitions, which ends with the test.
 func watching(t *testing.T, on *live) *bus.Watch {
 	t.Helper()
 	ctx, stop := context.WithCancel(context.Background())
@@ -31,7 +31,7 @@ func watching(t *testing.T, on *live) *bus.Watch {
 	return watch
 }
 
-// sendingNow is what desk send does with this input, with as many partitions as there are now.
+// sendingNow returns the options of desk send with this input and the current number of partitions.
 func sendingNow(t *testing.T, on *live, name, batch string, input io.Reader) sender.Options {
 	watch := watching(t, on)
 	known, err := watch.Look(context.Background())
@@ -53,8 +53,8 @@ func changed(t *testing.T, on *live, to int) {
 	}
 }
 
-// A sender of before is told of the new number, and how many of its lines count. Sent again, the batch has each line once. The
-// processes of partitions and the receiver go on by themselves, from 2 to 4 and back.
+// A sender of before gets the new number, and how many of its lines count. Sent again, the batch has each line once. The
+// partition processes and the receiver continue by themselves, from 2 to 4 and back.
 func TestProgramsGoOnWithAnotherNumberOfPartitions(t *testing.T) {
 	const count = 60
 	on := newLive(2, -1)
@@ -123,7 +123,7 @@ func TestProgramsGoOnWithAnotherNumberOfPartitions(t *testing.T) {
 	}
 }
 
-// Calls go on with another number of partitions, and each is answered once, also one that was put in while nobody answered.
+// Calls continue with another number of partitions, and each is answered once, also one made while nobody answered.
 func TestCallsGoOnWithAnotherNumberOfPartitions(t *testing.T) {
 	on := newLive(2, -1)
 	c := asking(t, on, nil)
@@ -160,7 +160,7 @@ func TestCallsGoOnWithAnotherNumberOfPartitions(t *testing.T) {
 	end(t, c)
 }
 
-// At brokers whose partitions an older program has declared, programs do as they did. Once the number is declared, it can be changed.
+// At brokers declared by an older program, programs work as before. Once the number is declared, it can be changed.
 func TestPartitionsOfAnOlderProgram(t *testing.T) {
 	on := newLive(2, -1)
 	on.Older = true
@@ -184,7 +184,7 @@ func TestPartitionsOfAnOlderProgram(t *testing.T) {
 	changed(t, on, 4)
 }
 
-// A counting bus counts the messages that are read of the stream that says how many partitions there are.
+// A counting bus counts the messages read from the scale stream.
 type counting struct {
 	*live
 	read *int64
@@ -219,7 +219,7 @@ func (c countingReader) Next() (bus.Message, error) {
 	return message, err
 }
 
-// A look reads what came since the look before, and not what was there at the start: each look leaves a mark for good.
+// A look reads what came since the last one, and not what was there at the start: each look leaves a mark for good.
 func TestALookReadsWhatIsNew(t *testing.T) {
 	const looks = 200
 	on := counting{newLive(2, -1), new(int64)}
@@ -234,7 +234,7 @@ func TestALookReadsWhatIsNew(t *testing.T) {
 			t.Fatal(known, err)
 		}
 	}
-	// Some may read again what the watch hasn't read yet.
+	// Some may reread what the watch hasn't read yet.
 	if read := atomic.LoadInt64(on.read); read > looks*looks/4 {
 		t.Errorf("%d looks read %d messages", looks, read)
 	}

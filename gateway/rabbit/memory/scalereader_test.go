@@ -13,8 +13,8 @@ import (
 	"gateway/rabbit/memory"
 )
 
-// A told stream is one of how many partitions there are, with what all its messages say, and how many of them were read.
-type told struct {
+// A scaleStream is a scale stream, with what all its messages say, and how many of them were read.
+type scaleStream struct {
 	*testing.T
 	*memory.Bus
 	bus.Scaling
@@ -22,10 +22,10 @@ type told struct {
 	read   int
 }
 
-func newTold(t *testing.T, seed int64) *told {
+func newScaleStream(t *testing.T, seed int64) *scaleStream {
 	b := memory.New(rand.New(rand.NewSource(seed)), bus.Settings{Partitions: 2})
 	b.Steady = true
-	w := &told{T: t, Bus: b}
+	w := &scaleStream{T: t, Bus: b}
 	w.takeIn()
 	b.Alter = func(message bus.Message) bus.Message {
 		w.read++
@@ -34,8 +34,8 @@ func newTold(t *testing.T, seed int64) *told {
 	return w
 }
 
-// takeIn takes in what was appended.
-func (w *told) takeIn() {
+// takeIn takes what was appended.
+func (w *scaleStream) takeIn() {
 	for _, message := range w.Stream(bus.Scale).Messages[len(w.before):] {
 		w.before = append(w.before, copied(w.Scaling))
 		w.Take(message)
@@ -47,7 +47,7 @@ func copied(s bus.Scaling) bus.Scaling {
 	return s
 }
 
-func (w *told) append(to bus.Route, headers bus.Headers) {
+func (w *scaleStream) append(to bus.Route, headers bus.Headers) {
 	link, _ := w.Connect(context.Background(), "test", "")
 	defer link.Close()
 	appender, err := link.Appender()
@@ -63,8 +63,8 @@ func (w *told) append(to bus.Route, headers bus.Headers) {
 	w.takeIn()
 }
 
-// look looks at the stream, and gives how many messages it read.
-func (w *told) look() int {
+// look looks at the stream, and returns how many messages it read.
+func (w *scaleStream) look() int {
 	w.read = 0
 	link, _ := w.Connect(context.Background(), "test", "")
 	defer link.Close()
@@ -78,8 +78,8 @@ func (w *told) look() int {
 	return w.read
 }
 
-// change lets a record come that changes the number, or one that doesn't count.
-func (w *told) change(random *rand.Rand) {
+// change adds a record that changes the number, or one that doesn't count.
+func (w *scaleStream) change(random *rand.Rand) {
 	next := bus.Settings{Partitions: 1 + random.Intn(9), Epoch: int64(len(w.All) - random.Intn(2))}
 	if random.Intn(2) == 0 {
 		w.append(bus.ScaleRoute, bus.BeginHeaders(next))
@@ -88,8 +88,8 @@ func (w *told) change(random *rand.Rand) {
 	}
 }
 
-// state lets an owner write down what it knows, which may be all before some earlier message.
-func (w *told) state(random *rand.Rand) {
+// state lets an owner write down its state, which may be that before some earlier message.
+func (w *scaleStream) state(random *rand.Rand) {
 	known := w.Scaling
 	if random.Intn(3) == 0 {
 		known = w.before[1+random.Intn(len(w.before)-1)]
@@ -101,13 +101,13 @@ func (w *told) state(random *rand.Rand) {
 func TestALookFindsAllThatIsSaid(t *testing.T) {
 	for seed := int64(0); seed < 10; seed++ {
 		random := rand.New(rand.NewSource(seed))
-		w := newTold(t, seed)
+		w := newScaleStream(t, seed)
 		for step := 0; step < 2000; step++ {
 			switch random.Intn(60) {
 			case 0:
 				w.change(random)
 			case 1:
-				if seed%2 == 0 || step < 1000 { // else there is no owner any more
+				if seed%2 == 0 || step < 1000 { // otherwise there is no owner any more
 					w.state(random)
 				}
 			default:
@@ -170,7 +170,7 @@ func TestALookReadsTheEnd(t *testing.T) {
 	})
 }
 
-// stated is how much of the stream is written down, and endOf is its last offset.
+// stated returns how much of the stream is written down, endOf its last offset.
 func stated(on *live) (upto int64) {
 	on.with(func() {
 		for _, message := range on.Stream(bus.Scale).Messages {

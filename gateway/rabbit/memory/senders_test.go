@@ -31,7 +31,7 @@ func (w *world) startSender() error {
 	return err
 }
 
-// newProcess is a process that has read how many partitions there are; now and then it knows no more than was once.
+// newProcess returns a process that has read the number of partitions, now and then an earlier one.
 func (w *world) newProcess(of batch, named bool) (*process, error) {
 	p := &process{of: of, named: named, opens: &recorder{Bus: w.Bus}}
 	link, err := w.Connect(context.Background(), "", "")
@@ -56,13 +56,13 @@ func (w *world) newProcess(of batch, named bool) (*process, error) {
 	return p, nil
 }
 
-// Started is what a process read at its start of how many partitions there are, and nothing later.
+// A started is what a process read at its start of the number of partitions.
 type started bus.Scaling
 
 func (s started) Scaling() bus.Scaling                    { return bus.Scaling(s) }
 func (s started) Newest() (bus.Settings, <-chan struct{}) { return bus.Settings{}, nil }
 
-// numbered notes the number that a line has in its partition.
+// numbered notes a line's number in its partition.
 func (p *process) numbered(text []byte, partition int, number int64) {
 	for int64(len(p.numbers[partition])) <= number {
 		p.numbers[partition] = append(p.numbers[partition], -1)
@@ -70,7 +70,7 @@ func (p *process) numbered(text []byte, partition int, number int64) {
 	p.numbers[partition][number] = numberOf(text)
 }
 
-// numberOf is the number of a line, which it has in itself.
+// numberOf returns the number within a line.
 func numberOf(text []byte) int {
 	var read struct {
 		ID    *int
@@ -85,7 +85,7 @@ func numberOf(text []byte) int {
 	return read.Model.Number
 }
 
-// feed hands the lanes their lines, once each partition has said what it knows of the batch, where that matters.
+// feed gives the lanes their lines, once each partition has said what it knows of the batch, if that matters.
 func (w *world) feed(p *process) error {
 	if p.named && p.settings.Epoch > 0 {
 		for _, l := range p.Lanes() {
@@ -104,7 +104,7 @@ func (w *world) feed(p *process) error {
 	return p.End()
 }
 
-// moveSender moves a sender, and lets go of one that has ended.
+// moveSender moves a sender, and drops one that has ended.
 func (w *world) moveSender(at int) error {
 	goesOn, err := w.moveProcess(w.senders[at])
 	if err != nil || goesOn {
@@ -114,7 +114,7 @@ func (w *world) moveSender(at int) error {
 	return nil
 }
 
-// moveProcess moves a process, and says whether it goes on.
+// moveProcess moves a process, and reports whether it continues.
 func (w *world) moveProcess(p *process) (goesOn bool, err error) {
 	if p.reason == nil {
 		goesOn, err = w.move(p)
@@ -147,7 +147,7 @@ func (w *world) moveProcess(p *process) (goesOn bool, err error) {
 	return false, nil
 }
 
-// release ends the connections of its lanes.
+// release ends its lanes' connections.
 func (p *process) release() {
 	for at := range p.lanes {
 		if link := p.lanes[at].link; link != nil {
@@ -156,7 +156,7 @@ func (p *process) release() {
 	}
 }
 
-// isClosed says whether each log of these settings is closed.
+// isClosed reports whether each log of these settings is closed.
 func (w *world) isClosed(of bus.Settings) bool {
 	for _, partition := range of.Each() {
 		if w.closeOf(partition) < 0 {
@@ -166,7 +166,7 @@ func (w *world) isClosed(of bus.Settings) bool {
 	return true
 }
 
-// closeOf is the offset at which a log is closed, or -1.
+// closeOf returns the offset at which a log is closed, or -1.
 func (w *world) closeOf(partition bus.Partition) int64 {
 	for _, message := range w.Stream(partition.Queue(bus.Lines)).Messages {
 		if _, is := bus.ReadClose(message, partition.Of); is {
@@ -176,7 +176,7 @@ func (w *world) closeOf(partition bus.Partition) int64 {
 	return -1
 }
 
-// move says whether the sender goes on.
+// move moves the sender, and reports whether it continues.
 func (w *world) move(p *process) (more bool, err error) {
 	ctx := context.Background()
 	if !p.fed {
@@ -263,14 +263,14 @@ func (p *process) open(at int) error {
 	return nil
 }
 
-// counted is what a process said of how many of its lines count.
+// A counted is how many of its lines a process reported to count.
 type counted struct {
 	of    batch
 	epoch int64 // of the process
 	sent  int64
 }
 
-// end takes in what a sender says at its end: that all of its batch was sent, or how much of it counts, and which lines.
+// end takes what a sender reports at its end: that all of its batch was sent, or how much of it counts, and which lines.
 func (w *world) end(p *process, reason error) {
 	tally, err := p.Ended(context.Background(), reason)
 	if reason == nil && err != nil {
@@ -278,7 +278,7 @@ func (w *world) end(p *process, reason error) {
 	}
 	if err == nil {
 		for _, number := range w.inputs[p.of] {
-			w.told[number] = true
+			w.reported[number] = true
 		}
 		return
 	}
@@ -286,7 +286,7 @@ func (w *world) end(p *process, reason error) {
 	for partition, upto := range p.upto {
 		for number, line := range p.numbers[partition] {
 			if int64(number) < upto && line >= 0 {
-				w.told[line] = true
+				w.reported[line] = true
 			}
 		}
 	}
@@ -297,7 +297,7 @@ func (w *world) killSender(at int) {
 	w.senders = append(w.senders[:at], w.senders[at+1:]...)
 }
 
-// repeatAll ends what is under way, and lets each batch be sent again as a whole.
+// repeatAll ends what is running, and lets each batch be sent again as a whole.
 func (w *world) repeatAll() error {
 	if err := w.finishChange(); err != nil {
 		return err
@@ -336,7 +336,7 @@ func (w *world) repeatAll() error {
 	return nil
 }
 
-// String is what it is at.
+// String returns its state.
 func (p *process) String() string {
 	text := fmt.Sprintf("settings %+v, fed %v, looked %v, reason %v:", p.settings, p.fed, p.looked, p.reason)
 	for at, l := range p.Lanes() {

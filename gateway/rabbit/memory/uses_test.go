@@ -9,7 +9,7 @@ import (
 	"testing"
 )
 
-// Senders, owners and receivers use the bus alone, and the client library stands in one package.
+// Senders, owners and receivers use only the bus, and one package uses the client library.
 func TestWhoUsesWhat(t *testing.T) {
 	files, err := filepath.Glob("../*/*.go")
 	if err != nil || len(files) == 0 {

@@ -15,9 +15,9 @@ import (
 	"gateway/rabbit/sender"
 )
 
-// A world has partitions in memory, with owners, senders and receivers, which are those of the programs. A seeded scheduler
-// moves one of them at a time, by one step. What the network and the machines may do is a step too: messages come late or twice,
-// confirms are lost, processes die or are not moved for long, and retention cuts.
+// A world has partitions in memory, with the programs' owners, senders and receivers. A seeded scheduler moves one of them at a
+// time, by one step. What the network and the machines may do is a step too: messages come late or twice, confirms are lost,
+// processes die or pause for long, and retention cuts.
 type world struct {
 	*memory.Bus
 	random    *rand.Rand
@@ -28,22 +28,22 @@ type world struct {
 	senders   []*process
 	receiver  *receiving
 	folder    string
-	inputs    map[batch][]int // of each batch, the numbers of its lines
+	inputs    map[batch][]int // the line numbers of each batch
 	texts     []line          // of these numbers
-	told      map[int]bool    // the lines that a sender said it had sent
-	counted   []counted       // how many lines of theirs processes said that count
-	singles   map[int64]bool  // offsets of messages that were cut alone: nobody can tell them from the bus's own
+	reported  map[int]bool    // the lines that a sender reported as sent
+	counted   []counted       // how many of their lines processes reported to count
+	singles   map[int64]bool  // offsets of messages that were cut by themselves: nobody can distinguish them from the bus's own
 	retention bool            // whether retention cuts
 	messages  int             // published so far, by which a flaw names batches
 }
 
-// flaws are rules that are left out, so that the checker has something to find.
+// A flaws breaks rules, so that the checker has something to find.
 type flaws struct{ noLook, noBatches, noSenders, noScale, noSections bool }
 
 // A batch is one of a sender.
 type batch struct{ sender, id string }
 
-// A line is one of an input: a model with an addend, or a request with a number.
+// A line is a line of an input: a model with an addend, or a request with a number.
 type line struct {
 	of     batch
 	index  int // in its batch
@@ -52,7 +52,7 @@ type line struct {
 	text   []byte
 }
 
-// settings are those of worlds in which the number of partitions doesn't change.
+// settings are those of worlds with a fixed number of partitions.
 var settings = bus.Settings{Partitions: 1}
 
 func newWorld(folder string, seed int64, retention bool, flaws flaws) *world {
@@ -62,7 +62,7 @@ func newWorld(folder string, seed int64, retention bool, flaws flaws) *world {
 func newWorldOf(folder string, seed int64, of bus.Settings, retention bool, flaws flaws) *world {
 	random := rand.New(rand.NewSource(seed))
 	w := &world{Bus: memory.New(random, of), random: random, flaws: flaws, folder: folder, inputs: map[batch][]int{},
-		told: map[int]bool{}, singles: map[int64]bool{}, retention: retention}
+		reported: map[int]bool{}, singles: map[int64]bool{}, retention: retention}
 	if flaws.noBatches {
 		w.Rewrite = w.withoutBatches
 	}
@@ -75,7 +75,7 @@ func newWorldOf(folder string, seed int64, of bus.Settings, retention bool, flaw
 	return w
 }
 
-// withoutBatches makes a batch of each message, as before there were batches.
+// withoutBatches makes each message a batch.
 func (w *world) withoutBatches(_ bus.Route, headers bus.Headers) bus.Headers {
 	if headers["kind"] == string(ledger.Lines) {
 		w.messages++
@@ -84,12 +84,12 @@ func (w *world) withoutBatches(_ bus.Route, headers bus.Headers) bus.Headers {
 	return headers
 }
 
-// withoutSenders takes the senders out of a snapshot: as if they had been forgotten.
+// withoutSenders removes the senders from a snapshot, as if they had been forgotten.
 func withoutSenders(message bus.Message) bus.Message {
 	return altered(message, func(l *ledger.Ledger) { l.Senders = ledger.NewSenders(nil, time.Time{}, 0) })
 }
 
-// altered is a message with a change to its ledger, if it is a snapshot.
+// altered returns a message with a change to its ledger, if it is a snapshot.
 func altered(message bus.Message, change func(*ledger.Ledger)) bus.Message {
 	if part, is, err := bus.ReadPart(message); err == nil && is && part.Snapshot {
 		l, err := ledger.Read(message.Body, 0)
@@ -124,7 +124,7 @@ func (w *world) input(of batch) {
 	}
 }
 
-// run moves the world so many steps. Then nothing fails any more, and an owner answers what is there.
+// run moves the world by steps. Then nothing fails any more, and an owner answers what is there.
 func (w *world) run(steps int) error {
 	for ; steps > 0; steps-- {
 		if err := w.step(); err != nil {
@@ -164,7 +164,7 @@ func (w *world) answerAll() error {
 	return nil
 }
 
-// scaling is how many partitions there are.
+// scaling returns the number of partitions.
 func (w *world) scaling() bus.Scaling {
 	var scaling bus.Scaling
 	for _, message := range w.Stream(bus.Scale).Messages {
@@ -173,7 +173,7 @@ func (w *world) scaling() bus.Scaling {
 	return scaling
 }
 
-// Scaling and Newest are what a receiver is told of it.
+// Scaling and Newest are for receivers.
 func (w *world) Scaling() bus.Scaling { return w.scaling() }
 
 func (w *world) Newest() (bus.Settings, <-chan struct{}) {
@@ -212,8 +212,8 @@ func (w *world) step() error {
 	return nil
 }
 
-// cut lets retention cut messages that no snapshot has, if nobody has read or answered them: of what is answered and cut before
-// a snapshot has it, batches aren't known any more.
+// cut lets retention cut messages that no snapshot has, if nobody has read or answered them: batches of what is answered and
+// cut before a snapshot has it are forgotten.
 func (w *world) cut() {
 	known, read := ledger.Start, ledger.Start
 	for _, message := range w.answers().Messages {
@@ -234,7 +234,7 @@ func (w *world) cut() {
 	}
 }
 
-// A process is one of desk send with one batch.
+// A process is a process of desk send with one batch.
 type process struct {
 	*sender.Sender
 	opens    *recorder
@@ -249,7 +249,7 @@ type process struct {
 	upto     []int64
 }
 
-// A laneState is that of a lane.
+// A laneState is the state of a lane.
 type laneState struct {
 	link   *memory.Link // or nil
 	closed bool         // whether it has sent all
@@ -259,7 +259,7 @@ type laneState struct {
 type recorder struct {
 	*memory.Bus
 	last       *memory.Link
-	hidesScale bool // whether nothing can be read of how many partitions there are
+	hidesScale bool // whether the scale stream can't be read
 }
 
 func (r *recorder) Connect(ctx context.Context, name, last string) (bus.Link, error) {
@@ -271,7 +271,7 @@ func (r *recorder) Connect(ctx context.Context, name, last string) (bus.Link, er
 	return link, err
 }
 
-// A scaleless link reads no stream that says how many partitions there are.
+// A scaleless link reads no scale stream.
 type scaleless struct{ *memory.Link }
 
 func (s scaleless) Read(what bus.Reading) (bus.Reader, error) {
@@ -281,10 +281,10 @@ func (s scaleless) Read(what bus.Reading) (bus.Reader, error) {
 	return s.Link.Read(what)
 }
 
-// output is the file of the answers.
+// output returns the path of the answers.
 func (w *world) output() string { return filepath.Join(w.folder, "answers") }
 
-// clear removes what an earlier history has left.
+// clear removes an earlier history's files.
 func (w *world) clear() error {
 	for _, name := range []string{w.output(), filepath.Join(w.folder, "place")} {
 		if err := os.Remove(name); err != nil && !errors.Is(err, os.ErrNotExist) {

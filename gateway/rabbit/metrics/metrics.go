@@ -1,4 +1,4 @@
-// Package metrics shows at an address what a program of the partitions tells of itself.
+// Package metrics serves a program's metrics and health.
 package metrics
 
 import (
@@ -18,12 +18,12 @@ const requestTimeout = 10 * time.Second
 type Source interface {
 	// Collectors are its metrics.
 	Collectors() []prometheus.Collector
-	// Ready tells whether the program does its work; and in words.
+	// Ready reports whether the program does its work, and words it.
 	Ready() (bool, string)
 }
 
-// Serve shows a source at an address until the context ends: /metrics for Prometheus, /healthz, which has status 200 while the
-// process is alive, and /readyz, which has 503 while it isn't ready. It tells where it listens.
+// Serve serves a source at an address until the context ends: /metrics for Prometheus; /healthz, with status 200 while the
+// process is alive; and /readyz, with 503 while it isn't ready. It returns the address it listens on.
 func Serve(ctx context.Context, address string, of Source) (net.Addr, error) {
 	listener, err := net.Listen("tcp", address)
 	if err != nil {

@@ -9,20 +9,20 @@ import (
 	"github.com/prometheus/client_golang/prometheus"
 )
 
-// Partitions are those that a program sends to or receives from, each over a connection of its own. They tell which of them can't
-// be reached. NewPartitions makes them.
+// Partitions are those that a program sends to or receives from, each over its own connection. They report which can't be
+// reached. NewPartitions makes them.
 type Partitions struct {
-	program string // as the names of the metrics have it
+	program string // as in the names of the metrics
 	mutex   sync.Mutex
 	failing map[any]error
 }
 
-// NewPartitions are those of a program: send or receive.
+// NewPartitions returns the Partitions of a program: send or receive.
 func NewPartitions(program string) *Partitions {
 	return &Partitions{program: program, failing: make(map[any]error)}
 }
 
-// Failed takes in why a partition can't be reached, or nil once it is. It is a number, or says more.
+// Failed notes why a partition can't be reached, or nil once it is. partition is a number, or more.
 func (p *Partitions) Failed(partition any, reason error) {
 	p.mutex.Lock()
 	defer p.mutex.Unlock()
@@ -33,7 +33,7 @@ func (p *Partitions) Failed(partition any, reason error) {
 	p.failing[partition] = reason
 }
 
-// Ready tells whether each partition is reached, and which are not.
+// Ready reports whether each partition is reached, and names the others.
 func (p *Partitions) Ready() (bool, string) {
 	p.mutex.Lock()
 	defer p.mutex.Unlock()
@@ -51,7 +51,7 @@ func (p *Partitions) Ready() (bool, string) {
 // Namespace begins the names of the program's metrics.
 func (p *Partitions) Namespace() string { return "desk_" + p.program }
 
-// Collectors are the metrics.
+// Collectors returns the metrics.
 func (p *Partitions) Collectors() []prometheus.Collector {
 	options := prometheus.GaugeOpts{Namespace: p.Namespace(), Name: "failing_partitions", Help: "Partitions that can't be reached."}
 	return []prometheus.Collector{prometheus.NewGaugeFunc(options, func() float64 {

@@ -9,7 +9,7 @@ import (
 	"testing"
 )
 
-// A partition that can't be reached is told at once, and no longer once it is.
+// An unreachable partition is reported at once, and no longer once it is reached.
 func TestAFailingPartition(t *testing.T) {
 	p := NewPartitions("send")
 	ctx, stop := context.WithCancel(context.Background())

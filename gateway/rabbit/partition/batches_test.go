@@ -12,12 +12,12 @@ import (
 	"gateway/rabbit/process"
 )
 
-// A batchLog is a log of lines of several batches, with what is due to each.
+// A batchLog is a log with lines of several batches, and the expected answers.
 type batchLog struct {
 	log
 	next   map[string]int64
 	models map[string]int64 // of sendCounted
-	in     map[string]int   // the addend of the model in force for each batch, or 0
+	in     map[string]int   // the addend of each batch's model, or 0
 	last   int
 	due    map[ledger.Place]string
 }
@@ -26,7 +26,7 @@ func newBatchLog() *batchLog {
 	return &batchLog{next: map[string]int64{}, in: map[string]int{}, due: map[ledger.Place]string{}}
 }
 
-// send appends a message of a batch with a model, if the addend isn't 0, and so many requests.
+// send appends a message of a batch with a model, if the addend isn't 0, and this many requests.
 func (l *batchLog) send(batch string, addend, requests int) {
 	if _, begun := l.next[batch]; !begun {
 		l.in[batch] = l.last
@@ -56,7 +56,7 @@ func (l *batchLog) end(batch string) {
 	l.next[batch] = 1 << 40
 }
 
-// answered says how many of the answers that are due are there, each right and once.
+// answered returns how many of the due answers are there, each right and once.
 func (l *batchLog) answered(t *testing.T) int {
 	t.Helper()
 	var chain ledger.Chain
@@ -96,8 +96,8 @@ func (l *batchLog) answered(t *testing.T) int {
 	return count
 }
 
-// Batches that alternate are each decided by their own models, however often the partition is taken over, and a batch
-// without a model by the one that was in force at its first line.
+// Alternating batches are each decided by their own models, however often the partition is taken over, and a batch without a
+// model by the one at its first line.
 func TestBatchesKeepTheirModels(t *testing.T) {
 	options := process.Options{Path: enginePath(t), Workers: 2, Longest: 1 << 20}
 	random := rand.New(rand.NewSource(2))

@@ -7,39 +7,39 @@ import (
 	"gateway/rabbit/line"
 )
 
-// An entry is a line of the log, or a message without lines, between its reading and its answer.
+// An entry is a line of the log, or a message without lines, from its reading to its answer.
 type entry struct {
 	place    ledger.Place
 	from     ledger.Origin
 	sequence int64 // its number among the batch's lines
 	first    bool  // whether it is the first of its batch
 	ends     bool  // whether it ends its batch
-	part     bool  // whether its message has further lines
+	part     bool  // whether its message has more lines
 	step     ledger.Step
-	raw      []byte // as it was sent
+	raw      []byte // as sent
 	line     line.Line
-	number   int64 // its number among the lines of the log that are answered, from 1
+	number   int64 // its number among the log's answered lines, from 1
 
 	skipped  bool  // it has no answer: it is no line, or desk send would not have sent it
-	known    bool  // its answer stands in the stream already
+	known    bool  // its answer is in the stream already
 	given    bool  // the engine has it
 	asked    int64 // its number in the engine's input
 	answered bool
-	refused  bool          // answered in the engine's stead, before it could
-	reason   answer.Reason // why it is refused in the engine's stead, or empty
+	refused  bool          // refused without the engine before it could answer
+	reason   answer.Reason // why it is refused without the engine, or empty
 	text     []byte
 	outcome  ledger.Outcome
-	lost     *lost         // it is no line, but stands for messages that are lost
-	closes   *bus.Settings // it is no line, but closes the log: there are partitions of these settings after it
+	lost     *lost         // it is no line, but lost messages
+	closes   *bus.Settings // it is no line, but closes the log: these settings apply after it
 }
 
-// A lost is a gap in the log, with what the answers say of its first lines.
+// A lost is a gap in the log, with what the answers say about its first lines.
 type lost struct {
 	gap     ledger.Gap
 	records []answer.Record
 }
 
-// hasModel says whether a model in force is among what is lost.
+// hasModel reports whether a loaded model is lost.
 func (l *lost) hasModel() bool {
 	for _, record := range l.records {
 		if record.Outcome.InForce {
@@ -49,22 +49,22 @@ func (l *lost) hasModel() bool {
 	return false
 }
 
-// overhead is about what an entry takes beside its texts, in bytes.
+// overhead is about how many bytes an entry takes besides its texts.
 const overhead = 300
 
-// bytes is about how much memory the entry takes.
+// bytes returns about how much memory the entry takes.
 func (e *entry) bytes() int { return len(e.raw) + len(e.line.Engine) + overhead }
 
-// settled tells whether nothing more is to be found out about the entry.
+// settled reports whether the entry is finished.
 func (e *entry) settled() bool { return e.skipped || e.known || e.answered }
 
-// refuse answers the entry in the engine's stead.
+// refuse answers the entry without the engine.
 func (e *entry) refuse(reason answer.Reason) {
 	e.answered, e.refused, e.reason = true, true, reason
 	e.text = answer.Refusal(e.line.Client, e.number, reason, nil)
 }
 
-// forget takes an answer of the engine back, so that the line can be given again.
+// forget withdraws an answer of the engine, so that the line can be given again.
 func (e *entry) forget() {
 	e.given = false
 	if !e.refused {
@@ -72,11 +72,11 @@ func (e *entry) forget() {
 	}
 }
 
-// A queue has the entries that are not settled up to the first of them, in the order of the log.
+// A queue has the entries from the first unsettled one on, in log order.
 type queue struct {
 	entries []*entry
-	bytes   int // of all entries, but for their answers
-	ready   int // of the answers that wait for their turn
+	bytes   int // of all entries, without their answers
+	ready   int // of answers waiting for their turn
 }
 
 func (q *queue) add(e *entry) {

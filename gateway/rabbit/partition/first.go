@@ -8,25 +8,25 @@ import (
 	"gateway/rabbit/ledger"
 )
 
-// A closedError says that a partition is answered for good: there is another number of partitions since.
+// A closedError means that a partition is answered for good, as there is another number of partitions.
 type closedError struct{ to bus.Settings }
 
 func (c *closedError) Error() string {
 	return fmt.Sprintf("all its lines are answered, and others follow: there are %d partitions now (epoch %d)", c.to.Partitions, c.to.Epoch)
 }
 
-// An unclosedError says that a partition can't begin: others, from which its keys come, aren't answered for good.
+// An unclosedError means that a partition can't begin, as others that had its keys aren't answered for good.
 type unclosedError struct{ sources []bus.Partition }
 
 func (u *unclosedError) Error() string {
 	return fmt.Sprintf("it begins once partitions %v are answered up to the change", u.sources)
 }
 
-// errNoBefore says that a partition of a later number of partitions was found, and not what was before.
+// errNoBefore means that the number of partitions before a later one is unknown.
 var errNoBefore = errors.New("nothing says how many partitions there were before")
 
-// publishFirst publishes the snapshot before the first line of a partition, and lets its history begin with it: what its sources know.
-// It is the same whoever publishes it, and however often.
+// publishFirst publishes the snapshot before a partition's first line, which has what its sources know, and begins the history
+// with it. It is the same no matter who publishes it, or how often.
 func publishFirst(reading bus.HistoryOptions, scaling bus.Scaling, publisher bus.Appender, h *bus.History, program string) error {
 	sources, err := readSources(reading, scaling, publisher)
 	if err != nil {
@@ -52,7 +52,7 @@ func publishFirst(reading bus.HistoryOptions, scaling bus.Scaling, publisher bus
 	return nil
 }
 
-// readSources reads what the partitions know from which the keys of this one come.
+// readSources reads what the earlier partitions of this one's keys know.
 func readSources(reading bus.HistoryOptions, scaling bus.Scaling, publisher bus.Appender) ([]ledger.Source, error) {
 	of := reading.Partition
 	before, is := scaling.Before(of.Of.Epoch)

@@ -8,13 +8,13 @@ import (
 	"gateway/rabbit/ledger"
 )
 
-// A publisher without a confirm for so many messages.
+// An openPublisher has this many unconfirmed messages.
 type openPublisher int
 
 func (p openPublisher) Open() int                                   { return int(p) }
 func (p openPublisher) Append(bus.Route, bus.Headers, []byte) error { return nil }
 
-// Answers wait for others for a while: for those that come soon since the first of them, and else since the message before.
+// Answers wait for others for a while: for those that come soon after the first of them, and otherwise after the last message.
 func TestAnswersWaitForOthers(t *testing.T) {
 	now := time.Unix(1_700_000_000, 0)
 	out := &output{publisher: openPublisher(0), now: func() time.Time { return now }, gather: bus.AnswerGather, ledger: ledger.New(0)}

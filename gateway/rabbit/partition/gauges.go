@@ -14,11 +14,11 @@ import (
 	"gateway/rabbit/ledger"
 )
 
-// Gauges are what a process tells of itself: counts since it was started, and how far behind its partition is.
+// Gauges has a process's metrics: counts since its start, and its partition's lag.
 type Gauges struct {
 	mutex     sync.Mutex
 	connected bool
-	partition *bus.Partition // nil where none is owned
+	partition *bus.Partition // nil if none is owned
 	waiting   int
 	unread    int64
 	seconds   float64
@@ -26,27 +26,27 @@ type Gauges struct {
 	refusals  map[answer.Reason]int64
 	takeovers int64
 	restarts  int64
-	unreads   int64 // snapshots that could not be read
+	unreads   int64 // unreadable snapshots
 	lost      losses
-	waits     map[bus.Partition]waiting // of partitions that wait for something to be done, what for
-	missing   []bus.Partition           // the partitions that have no queues
-	moved     time.Time                 // when a line was answered last, or nothing waited
+	waits     map[bus.Partition]waiting // what partitions wait for
+	missing   []bus.Partition           // the partitions without queues
+	moved     time.Time                 // when a line was last answered, or nothing waited
 }
 
 // A waiting is why a partition can't be owned. Another process may own it after a while, once somebody has acted.
 type waiting struct {
 	reason error
-	until  time.Time // it counts for so long, or for ever if it is zero
+	until  time.Time // when it expires; zero means never
 }
 
-// losses counts what the brokers have lost.
+// A losses counts what the brokers have lost.
 type losses struct {
 	gaps     int64 // of messages in logs
-	messages int64 // in these, at most
-	lines    int64 // of batches of which other lines came
+	messages int64 // in these gaps, at most
+	lines    int64 // of batches whose other lines came
 }
 
-// NewGauges are those of a process that owns nothing.
+// NewGauges returns the gauges of a process that owns nothing.
 func NewGauges() *Gauges {
 	return &Gauges{refusals: make(map[answer.Reason]int64), waits: make(map[bus.Partition]waiting), moved: time.Now()}
 }
@@ -70,12 +70,12 @@ func (g *Gauges) left() {
 	g.with(func() { g.partition, g.waiting, g.unread, g.seconds = nil, 0, 0, 0 })
 }
 
-// waitsFor takes in that a partition can't be owned before something is done.
+// waitsFor notes that a partition can't be owned before something is done.
 func (g *Gauges) waitsFor(partition bus.Partition, reason error, until time.Time) {
 	g.with(func() { g.waits[partition] = waiting{reason, until} })
 }
 
-// setMissing takes in which partitions have no queues, and says whether that is new.
+// setMissing notes the partitions without queues, and reports whether that is new.
 func (g *Gauges) setMissing(partitions []bus.Partition) (isNew bool) {
 	inOrder(partitions)
 	g.with(func() {
@@ -101,7 +101,7 @@ func (g *Gauges) unreadSnapshot() { g.with(func() { g.unreads++ }) }
 
 func (g *Gauges) restart() { g.with(func() { g.restarts++ }) }
 
-// A settled counts entries that are settled.
+// A settled counts settled entries.
 type settled struct {
 	answers  int64
 	refusals []answer.Reason
@@ -138,10 +138,10 @@ func (g *Gauges) lag(waiting int, unread int64, seconds float64) {
 	})
 }
 
-// stuck is how long lines may wait without one being answered, for the process to count as ready.
+// stuck is how long lines may wait without any answer while the process counts as ready.
 const stuck = 2 * time.Minute
 
-// Ready tells whether a broker is reached, and lines are answered if there are any; and in words.
+// Ready reports whether a broker is reached, and waiting lines are answered; and words it.
 func (g *Gauges) Ready() (bool, string) {
 	g.mutex.Lock()
 	defer g.mutex.Unlock()
@@ -158,7 +158,7 @@ func (g *Gauges) Ready() (bool, string) {
 	return true, fmt.Sprintf("owns partition %v%s", g.partition, g.lost)
 }
 
-// waiters are the partitions that wait for somebody to act, but for those without queues.
+// waiters returns the partitions that wait for somebody to act, except those without queues.
 func (g *Gauges) waiters() []bus.Partition {
 	var found []bus.Partition
 	for partition, w := range g.waits {
@@ -169,7 +169,7 @@ func (g *Gauges) waiters() []bus.Partition {
 	return found
 }
 
-// whatFor says what partitions wait for.
+// whatFor words what partitions wait for.
 func (g *Gauges) whatFor() string {
 	var said []string
 	for _, partition := range g.waiters() {
@@ -182,7 +182,7 @@ func (g *Gauges) whatFor() string {
 	return strings.Join(said, "; ")
 }
 
-// String says what was lost, if anything was.
+// String words the losses, if there are any.
 func (l losses) String() string {
 	if l == (losses{}) {
 		return ""
@@ -190,7 +190,7 @@ func (l losses) String() string {
 	return fmt.Sprintf("; lost: %d lines, and at most %d messages in %d gaps", l.lines, l.messages, l.gaps)
 }
 
-// Collectors are the gauges as Prometheus reads them.
+// Collectors returns the metrics for Prometheus.
 func (g *Gauges) Collectors() []prometheus.Collector {
 	all := []prometheus.Collector{
 		g.gauge("connected", "1 where a broker is reached.", func() float64 {
@@ -239,7 +239,7 @@ func (g *Gauges) lossCollectors() []prometheus.Collector {
 	}
 }
 
-// namespace begins the name of every metric.
+// namespace begins every metric's name.
 const namespace = "desk_partition"
 
 func (g *Gauges) gauge(name, help string, read func() float64) prometheus.Collector {

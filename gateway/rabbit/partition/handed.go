@@ -1,13 +1,13 @@
 package partition
 
-// A handed has the entries that the engine was given and has not answered, by their numbers in its input. The zero value has none.
+// A handed has the entries that the engine has and has not answered, by number in its input. The zero value has none.
 type handed struct {
-	first   int64    // the number of the first of the entries
-	entries []*entry // nil of those that are answered, and of what is no entry
+	first   int64    // the number of the first entry
+	entries []*entry // nil for answered ones, and for what is no entry
 	open    int
 }
 
-// add adds an entry, whose number is greater than those before.
+// add adds an entry with a greater number than those before.
 func (h *handed) add(e *entry) {
 	if h.open == 0 {
 		h.first, h.entries = e.asked, nil
@@ -19,7 +19,7 @@ func (h *handed) add(e *entry) {
 	h.open++
 }
 
-// at is the entry with this number, or nil.
+// at returns the entry with this number, or nil.
 func (h *handed) at(number int64) *entry {
 	if number < h.first || number >= h.first+int64(len(h.entries)) {
 		return nil
@@ -27,7 +27,7 @@ func (h *handed) at(number int64) *entry {
 	return h.entries[number-h.first]
 }
 
-// remove takes an entry out that is there.
+// remove removes an entry.
 func (h *handed) remove(e *entry) {
 	h.entries[e.asked-h.first] = nil
 	h.open--
@@ -36,7 +36,7 @@ func (h *handed) remove(e *entry) {
 	}
 }
 
-// only is the entry, where there is but one.
+// only returns the only entry, or nil.
 func (h *handed) only() *entry {
 	if h.open != 1 {
 		return nil

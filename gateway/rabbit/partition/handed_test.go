@@ -2,7 +2,7 @@ package partition
 
 import "testing"
 
-// Entries are found by their numbers until they are taken out, in whichever order.
+// Entries are found by number until they are removed, in any order.
 func TestHanded(t *testing.T) {
 	var h handed
 	entries := map[int64]*entry{}

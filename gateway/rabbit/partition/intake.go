@@ -11,36 +11,36 @@ import (
 	"gateway/rabbit/logs"
 )
 
-// An intake makes entries of the messages of the log, of each line of each sender once.
+// An intake makes entries from the log's messages, and takes each sender's lines once.
 type intake struct {
-	log     *logs.Log // of what is dropped
+	log     *logs.Log // for what is dropped
 	gauges  *Gauges
 	first   func() (int64, error) // the offset of the log's first message
 	queue   *queue
 	senders *ledger.Senders
-	begin   ledger.Place    // the snapshot's place: what lies before it is taken in
-	part    bool            // whether the message at the snapshot's place has further lines
-	upto    ledger.Place    // what lies before it is answered
-	more    bool            // whether the message of that place has further lines
-	records []answer.Record // the answers behind the snapshot, up to there
-	offset  int64           // of the last message that was read
+	begin   ledger.Place    // the snapshot's place: what is before it is taken
+	part    bool            // whether the message at the snapshot's place has more lines
+	upto    ledger.Place    // what is before it is answered
+	more    bool            // whether the message of that place has more lines
+	records []answer.Record // the answers after the snapshot, up to there
+	offset  int64           // of the last message read
 	lines   int64           // how many lines were given numbers
-	cut     bool            // whether messages of the log were lost
-	mark    string          // of this takeover, published once the log is read
-	of      bus.Settings    // how many partitions there are with this one
-	closed  bool            // whether the log is: no further message counts
-	fault   error           // why the log can't be gone on with
+	cut     bool            // whether messages of the log are lost
+	mark    string          // this takeover's mark, published once the log is read
+	of      bus.Settings    // this partition's settings
+	closed  bool            // whether the log is closed: later messages don't count
+	fault   error           // why the log can't be read on
 }
 
-// errOtherLog says that the stream of the lines was deleted, and is another one now.
+// errOtherLog means that the log's stream was deleted, and is another one now.
 var errOtherLog = errors.New("the log is not the one that the answers are for: its stream was made anew. desk partition repair " +
 	"lets it go on behind the answers")
 
-// errOvertaken says that retention has cut messages that this owner was about to read. Another owner may have answered them, so
-// the partition is taken over anew, with what the answers say now.
+// errOvertaken means that retention cut messages that this owner was about to read. Another owner may have answered them, so
+// the partition is taken over again, with what the answers say now.
 var errOvertaken = errors.New("retention has cut the log while it was read")
 
-// errModel says that a model came under the topic of requests, under which everybody may send who may send at all.
+// errModel means that a model came under the topic of requests, which every sender may use.
 var errModel = errors.New("a model without the right to send models")
 
 func newIntake(log *logs.Log, gauges *Gauges, queue *queue, h *bus.History, of bus.Settings, first func() (int64, error)) *intake {
@@ -48,7 +48,7 @@ func newIntake(log *logs.Log, gauges *Gauges, queue *queue, h *bus.History, of b
 		upto: h.Upto(), more: h.More, records: h.Records, offset: -1, lines: h.Ledger.Lines}
 }
 
-// from is where the log is to be read from.
+// from returns where to start reading the log.
 func (in *intake) from() bus.From {
 	if in.begin.Offset < 0 {
 		return bus.From{}
@@ -56,10 +56,10 @@ func (in *intake) from() bus.From {
 	return bus.FromOffset(in.begin.Offset)
 }
 
-// together is how many entries are made at once, at most: all of them stay while one is needed.
+// together limits the entries made at once: all of them stay while one is needed.
 const together = 64
 
-// take takes in a message.
+// take takes a message.
 func (in *intake) take(message bus.Message) {
 	offset := message.Offset
 	if in.lookForGap(offset); in.fault != nil {
@@ -83,7 +83,7 @@ func (in *intake) take(message bus.Message) {
 	}
 	var counts verdicts
 	lines := bytes.Split(message.Body, []byte("\n"))
-	var entries []entry // some are made together, which takes less time
+	var entries []entry // some are made together, which is faster
 	for index, raw := range lines {
 		place := ledger.Place{Offset: offset, Index: int64(index)}
 		if !in.begin.Before(place) {
@@ -97,10 +97,10 @@ func (in *intake) take(message bus.Message) {
 		e.place, e.from, e.sequence, e.raw, e.part = place, from, from.Number+int64(index), raw, index < len(lines)-1
 		counts[in.takeLine(e)]++
 	}
-	in.tell(offset, from, counts)
+	in.reportVerdicts(offset, from, counts)
 }
 
-// takeMark takes in a mark, or that the log is closed here.
+// takeMark takes a mark, or the log's closing.
 func (in *intake) takeMark(message bus.Message) {
 	if message.Headers[bus.MarkHeader] == in.mark && message.Offset <= in.upto.Offset {
 		in.fault = errOtherLog
@@ -112,7 +112,7 @@ func (in *intake) takeMark(message bus.Message) {
 	}
 }
 
-// lookForGap finds out whether messages before this one are lost, and lets a line of the answers say so.
+// lookForGap checks whether messages before this one are lost, and adds a line to the answers then.
 func (in *intake) lookForGap(offset int64) {
 	gap, isLost := in.gapBefore(offset)
 	if !isLost || in.fault != nil || in.closed {
@@ -138,9 +138,9 @@ func (in *intake) lookForGap(offset int64) {
 	in.queue.add(&entry{place: gap.Place(), lost: &lost{gap, records}, skipped: true})
 }
 
-// gapBefore is what is missing between a message and the one before, and says whether it is lost. The stream was read from the
-// last message of the snapshot on, or from the last one that was read. The broker takes some offsets for itself: nothing is
-// lost if the log begins before them, or if it is one offset alone, which a log may begin with.
+// gapBefore returns the gap between a message and the one before, and reports whether it is lost. The stream was read from the
+// snapshot's last message on, or from the last one read. The broker uses some offsets itself: nothing is lost if the log begins
+// before them, or if it is a single offset, with which a log may begin.
 func (in *intake) gapBefore(offset int64) (gap ledger.Gap, isLost bool) {
 	gap, isMessage := ledger.Gap{From: in.begin.Offset + 1, To: offset - 1}, false
 	switch {
@@ -159,7 +159,7 @@ func (in *intake) gapBefore(offset int64) (gap ledger.Gap, isLost bool) {
 	return gap, first > gap.From
 }
 
-// unanswered is the offset of the first message that has lines without an answer.
+// unanswered returns the offset of the first message with unanswered lines.
 func (in *intake) unanswered() int64 {
 	if in.more {
 		return in.upto.Offset
@@ -167,7 +167,7 @@ func (in *intake) unanswered() int64 {
 	return in.upto.Offset + 1
 }
 
-// recordsUpto takes the records of lines up to a place out.
+// recordsUpto removes and returns the records of lines up to a place.
 func (in *intake) recordsUpto(place ledger.Place) []answer.Record {
 	count := 0
 	for count < len(in.records) && !place.Before(in.records[count].Place) {
@@ -178,8 +178,7 @@ func (in *intake) recordsUpto(place ledger.Place) []answer.Record {
 	return taken
 }
 
-// lookForLines takes in how many lines of a batch are missing before this place. A batch that isn't known may be forgotten, and
-// not lost.
+// lookForLines notes how many lines of a batch are missing before this place. An unknown batch may be forgotten, not lost.
 func (in *intake) lookForLines(from ledger.Origin, place ledger.Place, missing int64, isKnown bool) {
 	if missing == 0 || !isKnown && !in.cut || !in.upto.Before(place) {
 		return
@@ -188,7 +187,7 @@ func (in *intake) lookForLines(from ledger.Origin, place ledger.Place, missing i
 	in.log.Error("line %v: %d lines of sender %q are lost before it", place, missing, from.Sender)
 }
 
-// takeControl takes in a claim, or the end of a batch.
+// takeControl takes a claim, or a batch's end.
 func (in *intake) takeControl(from ledger.Origin, place ledger.Place) {
 	if !in.begin.Before(place) {
 		return
@@ -199,10 +198,10 @@ func (in *intake) takeControl(from ledger.Origin, place ledger.Place) {
 	in.queue.add(&entry{place: place, from: from, ends: counts && from.Kind == ledger.End, skipped: true})
 }
 
-// verdicts counts what became of lines.
+// A verdicts counts what happened to lines.
 type verdicts [ledger.Verdicts]int64
 
-// takeLine takes a line in, and says what becomes of it.
+// takeLine takes a line, and returns what happens to it.
 func (in *intake) takeLine(e *entry) ledger.Verdict {
 	var fault error
 	if e.line, fault = line.Read(e.raw); fault == nil && e.line.IsModel() && !e.from.MayHaveModels {
@@ -233,7 +232,7 @@ func (in *intake) takeLine(e *entry) ledger.Verdict {
 	return ledger.Taken
 }
 
-// recorded is what the answer in the stream says that stands there for this place.
+// recorded returns the outcome of the answer in the stream for this place.
 func (in *intake) recorded(place ledger.Place) ledger.Outcome {
 	for len(in.records) > 0 && in.records[0].Place.Before(place) {
 		in.records = in.records[1:]
@@ -247,14 +246,14 @@ func (in *intake) recorded(place ledger.Place) ledger.Outcome {
 	return outcome
 }
 
-// drop tells of a line or a message that is left out, if it wasn't told before.
+// drop reports a line or message that is left out, unless that was reported before.
 func (in *intake) drop(place ledger.Place, reason error) {
 	if in.upto.Before(place) {
 		in.log.Warning("line %v is dropped: %v", place, reason)
 	}
 }
 
-func (in *intake) tell(offset int64, from ledger.Origin, counts verdicts) {
+func (in *intake) reportVerdicts(offset int64, from ledger.Origin, counts verdicts) {
 	if !in.upto.Before(ledger.Place{Offset: offset}) {
 		return
 	}

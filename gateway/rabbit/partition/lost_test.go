@@ -16,7 +16,7 @@ import (
 	"gateway/rabbit/process"
 )
 
-// sendCounted sends, and says how many models of the batch came before, as a sender does.
+// sendCounted sends with the number of earlier models of the batch, as a sender does.
 func (l *batchLog) sendCounted(batch string, addend, requests int) {
 	models := l.models[batch]
 	l.send(batch, addend, requests)
@@ -26,7 +26,7 @@ func (l *batchLog) sendCounted(batch string, addend, requests int) {
 	}
 }
 
-// cutLog has a batch with a model, of which the messages 3 to 6 are to be cut, and one whose model is among these.
+// cutLog has a batch with a model, whose messages 3 to 6 are to be cut, and one whose model is among these.
 func cutLog() *batchLog {
 	l := newBatchLog()
 	l.models = map[string]int64{}
@@ -53,7 +53,7 @@ func cutLog() *batchLog {
 	return l
 }
 
-// lostLines are the lines of the answers that stand for lost requests.
+// lostLines returns the lines of the answers that replace lost requests.
 func (l *log) lostLines() (lost []string) {
 	for _, message := range l.answers {
 		for _, text := range strings.Split(string(message.Body), "\n") {
@@ -65,14 +65,14 @@ func (l *log) lostLines() (lost []string) {
 	return lost
 }
 
-// Messages that retention has cut are a line of the answers and are counted, also in lines where others of their batch came.
-// What comes after them is answered, but for the lines of a batch whose model is lost.
+// Messages cut by retention are a line of the answers and are counted, also in lines if others of their batch came. What comes
+// after them is answered, except lines of a batch whose model is lost.
 func TestWhatIsLostIsKnown(t *testing.T) {
 	options := process.Options{Path: enginePath(t), Workers: 1, Longest: 1 << 20}
 	l := cutLog()
 	first := take(t, &l.log, 0, options, 1000)
 	first.read(t, 2)
-	first.output.sinceMessages = snapshotMessages // a snapshot of all up to message 1
+	first.output.sinceMessages = snapshotMessages // a snapshot up to message 1
 	if err := first.Step(); err != nil {
 		t.Fatal(err)
 	}
@@ -107,12 +107,12 @@ func TestWhatIsLostIsKnown(t *testing.T) {
 	}
 }
 
-// One offset that is missing is the broker's own, and a batch whose end says how many lines it had is missing no line.
+// A single missing offset is the broker's own, and a batch whose end has the right number of lines is missing none.
 func TestAnOffsetOfTheBrokerIsNotLost(t *testing.T) {
 	options := process.Options{Path: enginePath(t), Workers: 1, Longest: 1 << 20}
 	l := newBatchLog()
 	l.send("whole", 1000, 4)
-	l.put(ledger.Origin{}) // takes an offset, and is not read
+	l.put(ledger.Origin{}) // uses an offset, and is not read
 	l.send("whole", 0, 4)
 	l.end("whole")
 	h := take(t, &l.log, 0, options, 1000)
@@ -128,7 +128,7 @@ func TestAnOffsetOfTheBrokerIsNotLost(t *testing.T) {
 	}
 }
 
-// An engine that refuses the model in force ends the owner. The partition waits for another program, and one that can own no
+// An engine that refuses the current model ends the owner. The partition waits for another program; a process that can own no
 // partition ends.
 func TestAnEngineThatRefusesTheModelInForce(t *testing.T) {
 	path := enginePath(t)
@@ -164,7 +164,7 @@ func TestAnEngineThatRefusesTheModelInForce(t *testing.T) {
 	}
 }
 
-// readToFault lets the holder read a message, and gives why it can't go on.
+// readToFault lets the holder read a message, and returns why it can't continue.
 func (h *holder) readToFault(t *testing.T) error {
 	t.Helper()
 	h.work.log = silent
@@ -182,8 +182,8 @@ func (h *holder) readToFault(t *testing.T) error {
 	}
 }
 
-// What was answered before it was cut gives its tickets and numbers all the same. A model among it is lost, and the lines that
-// need it are refused, up to the next one.
+// What was answered before it was cut still counts for tickets and numbers. A model among it is lost, and the lines that need
+// it are refused, up to the next one.
 func TestWhatIsAnsweredAndCut(t *testing.T) {
 	options := process.Options{Path: enginePath(t), Workers: 1, Longest: 1 << 20}
 	l := filled(1, 40)
@@ -223,7 +223,7 @@ func TestWhatIsAnsweredAndCut(t *testing.T) {
 	consecutive(t, given(t, l))
 }
 
-// snapshot is what the holder would publish now.
+// snapshot returns what the holder would publish now.
 func (l *log) snapshot(t *testing.T, h *holder) bus.Message {
 	t.Helper()
 	body, err := h.output.ledger.Snapshot("")
@@ -234,7 +234,7 @@ func (l *log) snapshot(t *testing.T, h *holder) bus.Message {
 	return bus.Message{At: settings.Route(bus.AnswersExchange, bus.TopicAnswers, 0), Headers: headers, Body: body}
 }
 
-// dropSnapshots takes the snapshots from a message on away.
+// dropSnapshots removes the snapshots from a message on.
 func (l *log) dropSnapshots(t *testing.T, from int) {
 	t.Helper()
 	kept := l.answers[:from:from]
@@ -269,13 +269,13 @@ func consecutive(t *testing.T, answers map[string][]string) {
 	}
 }
 
-// An owner whose reader is overtaken by retention takes the partition over anew: another one may have answered what is cut.
+// An owner that retention overtakes takes the partition over again: another one may have answered what is cut.
 func TestAnOwnerThatIsOvertaken(t *testing.T) {
 	l := filled(5, 4)
 	in := take(t, l, 0, process.Options{}, 1000).intake
 	in.take(l.lines[0])
 	before := len(in.queue.entries)
-	in.take(l.lines[3]) // the broker may take offsets for itself
+	in.take(l.lines[3]) // the broker may use offsets itself
 	if in.fault != nil || len(in.queue.entries) == before {
 		t.Errorf("%v, %d entries after %d", in.fault, len(in.queue.entries), before)
 	}

@@ -9,10 +9,9 @@ import (
 	"gateway/rabbit/ledger"
 )
 
-// A snapshot is due after so much of lines and answers, or four times its own size if that is more; after so many
-// messages, fewer where it is small, since who takes over reads them; and an hour after the one before, or a minute after a
-// takeover. So where streams are cut by age, one is left. After a model it is due soon: if the model is cut before a snapshot has
-// it, it is lost.
+// A snapshot is due after this much of lines and answers, or four times its size if that is more; after this many messages,
+// fewer if it is small, as the next owner reads them; and an hour after the last one, or a minute after a takeover, so that
+// streams cut by age keep one. It is due soon after a model, as the model is lost if it is cut before a snapshot has it.
 const (
 	snapshotBytes    = 4 << 20
 	snapshotFactor   = 4
@@ -21,46 +20,46 @@ const (
 	smallSnapshot    = 128 << 10
 	snapshotPause    = time.Hour
 	firstPause       = time.Minute
-	modelPause       = 10 * time.Second // from one snapshot to the next one after a model
+	modelPause       = 10 * time.Second // between a snapshot and the next one after a model
 )
 
-// A publisher appends messages, and knows how many of them are without a confirm.
+// A publisher appends messages, and knows how many are unconfirmed.
 type publisher interface {
 	Open() int
 	Append(to bus.Route, headers bus.Headers, body []byte) error
 }
 
-// An output publishes the answers in the order of their lines, and snapshots between them.
+// An output publishes the answers in line order, with snapshots between them.
 type output struct {
 	publisher publisher
 	now       func() time.Time
 	route     bus.Route // of the answers
 	ledger    *ledger.Ledger
-	program   string       // the version of this one
-	last      ledger.Place // the place of the last answer that was published
-	upto      ledger.Place // the place of the last answer in the body
-	// published is an offset of the stream of answers: the last message that was published is there, or after it, since others
-	// publish marks. snapshotAt is that of the last snapshot.
+	program   string       // this program's version
+	last      ledger.Place // the last published answer's place
+	upto      ledger.Place // the last answer's place in the body
+	// published is an offset of the answer stream: the last published message is there or after it, as others publish marks.
+	// snapshotAt is the last snapshot's offset.
 	published, snapshotAt int64
 	body                  []byte
 	begun, sent           time.Time     // when the body got its first answer, and when the last message of answers was published
-	gather                time.Duration // how long answers wait for others at most
-	more                  bool          // whether the message of that place has further lines
+	gather                time.Duration // how long answers wait for others
+	more                  bool          // whether the message of that place has more lines
 	lines                 int           // in the body
 
 	sinceBytes    int // of lines and answers since the last snapshot
 	sinceMessages int
 	size          int          // of the last snapshot
-	next          time.Time    // when one is due whatever was answered, if it isn't zero
+	next          time.Time    // when one is due in any case, unless zero
 	aged          bool         // whether that time has come
-	modelled      bool         // whether a model was put in force since the last snapshot
-	written       time.Time    // when the last snapshot was
+	modelled      bool         // whether a model was loaded since the last snapshot
+	written       time.Time    // when the last snapshot was written
 	fresh         bool         // whether that is less than modelPause ago
-	closing       bus.Settings // which are after this partition, once all is settled up to where its log is closed
+	closing       bus.Settings // the settings after this partition, once all is settled up to its log's closing
 	isClosed      bool         // whether the last snapshot is published
 }
 
-// room tells whether the next answer may be settled.
+// room reports whether the next answer may be settled.
 func (out *output) room() bool {
 	return len(out.body) < bus.MessageBytes && out.lines < bus.MessageLines && !out.snapshotDue()
 }
@@ -80,7 +79,7 @@ func (out *output) snapshotDue() bool {
 	return out.ledger.Place != ledger.Start && (out.sinceBytes >= due || out.sinceMessages >= messages || out.aged || out.modelled && !out.fresh)
 }
 
-// isOver says whether all is answered up to where the log is closed, and the last snapshot confirmed.
+// isOver reports whether all is answered up to the log's closing, and the last snapshot confirmed.
 func (out *output) isOver() bool { return out.isClosed && out.publisher.Open() == 0 }
 
 // tick looks at the time.
@@ -89,7 +88,7 @@ func (out *output) tick(now time.Time) {
 	out.fresh = now.Sub(out.written) < modelPause
 }
 
-// settle takes in that an entry is settled, and adds its answer to the body if it is a new one.
+// settle notes that an entry is settled, and adds its answer to the body if it is new.
 func (out *output) settle(e *entry) {
 	out.ledger.Part = e.part
 	if e.lost != nil {
@@ -127,7 +126,7 @@ func (out *output) settle(e *entry) {
 	out.lines++
 }
 
-// settleLost takes in that messages are lost, and adds a line that says so if there is none.
+// settleLost notes that messages are lost, and adds a line about it if there is none.
 func (out *output) settleLost(e *entry) {
 	out.ledger.Skip(e.place)
 	for _, record := range e.lost.records {
@@ -150,7 +149,7 @@ func (out *output) begin() {
 	}
 }
 
-// gathers is how long the answers in the body wait for further ones, of which some may come soon.
+// gathers returns how long the answers in the body wait for more. soon means that some may come soon.
 func (out *output) gathers(soon bool) time.Duration {
 	switch {
 	case out.lines == 0 || out.publisher.Open() > 0 || !out.room():
@@ -161,8 +160,8 @@ func (out *output) gathers(soon bool) time.Duration {
 	return out.gather - out.now().Sub(out.sent)
 }
 
-// publish publishes what is due, once the message before is confirmed. With several on their way, one could be lost
-// and the next one kept where the stream changes its leader. Of the next answers some may come soon.
+// publish publishes what is due, once the last message is confirmed. With several in flight, one could be lost and the next
+// kept when the stream changes its leader. soon means that more answers may come soon.
 func (out *output) publish(soon bool) (bool, error) {
 	switch {
 	case out.publisher.Open() > 0 || out.gathers(soon) > 0:

@@ -1,5 +1,5 @@
-// Package partition owns one partition at a time, whichever is free: it reads the partition's log, lets the engine
-// answer it, and publishes the answers in the order of the lines, with snapshots between them.
+// Package partition owns any one free partition at a time: it reads the partition's log, lets the engine answer it, and
+// publishes the answers in line order, with snapshots between them.
 package partition
 
 import (
@@ -10,20 +10,20 @@ import (
 	"gateway/rabbit/process"
 )
 
-// tick is how often the deadlines are looked at.
+// tick is how often deadlines are checked.
 const tick = 50 * time.Millisecond
 
-// Options say how a partition is worked on.
+// Options says how partitions are processed.
 type Options struct {
 	Bus      bus.Bus
-	Settings bus.Settings // where the brokers don't say how many partitions there are
+	Settings bus.Settings // if the brokers don't have the number of partitions
 	Engine   process.Options
-	Deadline time.Duration // how long the evaluation of a line may take
-	Keep     time.Duration // how long a named sender is known after its last message; 0 says for ever
+	Deadline time.Duration // how long a line's evaluation may take
+	Keep     time.Duration // how long a named sender is remembered after its last message; 0 means forever
 	Log      *logs.Log
 	Gauges   *Gauges
-	Program  string // the version of this one
-	// Begin begins an engine: a process of it, where it is nil. Now is the clock: the machine's, where it is nil.
+	Program  string // this program's version
+	// Begin starts an engine, by default a process. Now is the clock, by default the machine's.
 	Begin func(process.Options) (Evaluator, error)
 	Now   func() time.Time
 }
@@ -33,8 +33,8 @@ type Owner struct {
 	log       *logs.Log
 	gauges    *Gauges
 	link      bus.Link
-	lines     string    // the name of the log
-	marks     bus.Route // of marks of the log
+	lines     string    // the log's name
+	marks     bus.Route // for marks of the log
 	publisher bus.Appender
 	stream    bus.Reader
 	queue     *queue
@@ -42,12 +42,12 @@ type Owner struct {
 	work      *work
 	output    *output
 	tail      *tail
-	timed     bool // whether the clock is the machine's; with another one who moves it lets the owner look at it
+	timed     bool // whether the clock is the machine's; otherwise the test lets the owner look at it
 	report    report
 	idle      idle
 }
 
-// Begin takes a partition over, once, where its last answer stands.
+// Begin takes a partition over once, after its last answer.
 func Begin(options Options, link bus.Link, partition bus.Partition, scaling bus.Scaling) (*Owner, error) {
 	return begin(options, link, partition, scaling, options.Log, unwatched{})
 }
@@ -57,7 +57,7 @@ type unwatched struct{}
 func (unwatched) Moved()        {}
 func (unwatched) Passed(string) {}
 
-// begin takes up a partition where its last answer stands.
+// begin takes a partition over after its last answer.
 func begin(options Options, link bus.Link, partition bus.Partition, scaling bus.Scaling, log *logs.Log, s bus.Progress) (*Owner, error) {
 	publisher, err := link.Appender()
 	if err != nil {
@@ -93,7 +93,7 @@ func begin(options Options, link bus.Link, partition bus.Partition, scaling bus.
 	return o, o.publishMarks(partition.Route(bus.AnswersExchange, bus.TopicMarks), h.At)
 }
 
-// newOwner is an owner that goes on behind a history.
+// newOwner returns an owner that continues after a history.
 func newOwner(options Options, link bus.Link, partition bus.Partition, log *logs.Log, h *bus.History) *Owner {
 	lines := partition.Queue(bus.Lines)
 	q, route := &queue{}, partition.Route(bus.AnswersExchange, bus.TopicAnswers)
@@ -114,7 +114,7 @@ func newOwner(options Options, link bus.Link, partition bus.Partition, log *logs
 			published: h.End, snapshotAt: h.At, sinceMessages: h.Messages, next: now().Add(firstPause)}}
 }
 
-// publishMarks marks the log, and lets the answers say at their end where the last snapshot is.
+// publishMarks marks the log, and points to the last snapshot at the end of the answers.
 func (o *Owner) publishMarks(answers bus.Route, snapshotAt int64) error {
 	if err := o.publisher.Append(o.marks, bus.Headers{bus.MarkHeader: o.intake.mark}, nil); err != nil {
 		return err
@@ -125,8 +125,8 @@ func (o *Owner) publishMarks(answers bus.Route, snapshotAt int64) error {
 	return o.publisher.Settle()
 }
 
-// CheckLog makes sure that the log isn't shorter than its answers, as one that the brokers made anew: the owner reads from behind its
-// end then, and finds no message of it.
+// CheckLog checks that the log isn't shorter than its answers, like one that the brokers made again: the owner would read from
+// after its end, and find no message.
 func (o *Owner) CheckLog() error {
 	end, err := o.markEnd()
 	if err == nil && end <= o.intake.upto.Offset {
@@ -135,7 +135,7 @@ func (o *Owner) CheckLog() error {
 	return err
 }
 
-// markEnd marks the log's end over the owner's link, and looks where the mark is.
+// markEnd marks the log's end over the owner's link, and returns the mark's offset.
 func (o *Owner) markEnd() (int64, error) {
 	stream, err := o.link.Read(bus.Reading{Stream: o.lines, From: bus.From{Place: bus.Last}, Window: bus.MostOpen})
 	if err != nil {
@@ -191,7 +191,7 @@ func (o *Owner) run() error {
 // End ends the engine.
 func (o *Owner) End() { o.work.end() }
 
-// Wait waits for something to happen, and takes it in.
+// Wait waits for an event, and handles it.
 func (o *Owner) Wait(ticks <-chan time.Time) error {
 	var arrivals <-chan bus.Message
 	if o.room() {
@@ -235,17 +235,17 @@ func (o *Owner) Wait(ticks <-chan time.Time) error {
 func (o *Owner) tick() error {
 	o.work.tick()
 	o.output.tick(o.output.now())
-	o.tell()
+	o.reportLag()
 	if err := o.idle.late(time.Now(), o.unread() > 0 && o.room()); err != nil {
 		return err
 	}
 	return o.publisher.Late()
 }
 
-// room tells whether further messages are read.
+// room reports whether more messages are read.
 func (o *Owner) room() bool { return o.queue.bytes+o.queue.ready < bus.WindowBytes }
 
-// unread is how many messages of the log were not read.
+// unread returns how many messages of the log are unread.
 func (o *Owner) unread() int64 {
 	if unread := o.tail.offset() - o.intake.offset; unread > 0 {
 		return unread
@@ -253,7 +253,7 @@ func (o *Owner) unread() int64 {
 	return 0
 }
 
-// Step does what can be done without waiting.
+// Step does what needs no waiting.
 func (o *Owner) Step() error {
 	for {
 		o.settle()
@@ -277,7 +277,7 @@ func (o *Owner) Step() error {
 	return o.work.give()
 }
 
-// settle hands the settled entries at the head of the queue to the output.
+// settle passes the settled entries at the queue's head to the output.
 func (o *Owner) settle() {
 	var s settled
 	for e := o.queue.head(); e != nil && e.settled() && o.output.room(); e = o.queue.head() {

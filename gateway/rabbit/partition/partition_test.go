@@ -23,13 +23,13 @@ import (
 
 var settings = bus.Settings{Partitions: 1}
 
-// silent is a log that nobody reads.
+// silent is a discarded log.
 var silent = logs.New(io.Discard, "test")
 
 // A log is a partition's two streams, in memory.
 type log struct {
 	lines   []bus.Message
-	cut     int // so many of the first lines' messages are cut
+	cut     int // how many of the first log messages are cut
 	answers []bus.Message
 }
 
@@ -58,10 +58,10 @@ func (l *log) put(from ledger.Origin, lines ...string) {
 type holder struct {
 	*Owner
 	log  *log
-	next int // the next message of the log
+	next int // the log's next message
 }
 
-// take takes the partition over, with what is answered from this message of the answers' stream on.
+// take takes the partition over, with the answers from this message of the answer stream on.
 func take(t *testing.T, l *log, from int, options process.Options, deadline int) *holder {
 	t.Helper()
 	h := bus.NewHistory(from == 0, 0)
@@ -82,7 +82,7 @@ func take(t *testing.T, l *log, from int, options process.Options, deadline int)
 	return &holder{Owner: o, log: l, next: next}
 }
 
-// work lets the holder read so many messages more, and waits for the answers, or for so many of them.
+// read lets the holder read this many more messages, and waits for the answers, or for that many.
 func (h *holder) read(t *testing.T, messages int) {
 	t.Helper()
 	for ; messages > 0 && h.next < len(h.log.lines); messages-- {
@@ -138,7 +138,7 @@ func request(number int) string {
 	return fmt.Sprintf(`{"key":"key %d","service":"%s","inputs":{"a":%d},"id":%d}`, number%90, service, number, number)
 }
 
-// filled is a log of messages with some lines each, with models between them, and lines that are none.
+// filled returns a log with messages of some lines each, with models between them and invalid lines.
 func filled(messages, lines int) *log {
 	l := &log{}
 	number := 0
@@ -161,7 +161,7 @@ func filled(messages, lines int) *log {
 	return l
 }
 
-// due is what one desk serve answers to the whole log, each client's answers in order.
+// due returns what one desk serve answers to the whole log, each client's answers in order.
 func due(t *testing.T, l *log, path string) map[string][]string {
 	t.Helper()
 	var input bytes.Buffer
@@ -194,7 +194,7 @@ func byClient(t *testing.T, lines [][]byte) map[string][]string {
 	return found
 }
 
-// given is what the stream has, as a reader sees it that keeps to the chain, in the order of the lines.
+// given returns the stream's answers as a chained reader sees them, in line order.
 func given(t *testing.T, l *log) map[string][]string {
 	t.Helper()
 	var chain ledger.Chain
@@ -245,15 +245,15 @@ func equal(t *testing.T, got, want map[string][]string) {
 	}
 }
 
-// A partition that is taken over again and again, at any message and with a snapshot at any place, answers what one
-// desk serve answers to the whole log, tickets and numbers of lines included.
+// A partition that is taken over again and again, at any message and with a snapshot anywhere, answers what one desk serve
+// answers to the whole log, including tickets and line numbers.
 func TestTakeoversAnswerAsOneProcess(t *testing.T) {
 	path := enginePath(t)
 	random := rand.New(rand.NewSource(1))
 	options := process.Options{Path: path, Workers: 1, Longest: 1 << 20}
 	for round := 0; round < 4; round++ {
 		l := filled(30, 40)
-		from := 0 // a message of the answers' stream from which its readers begin
+		from := 0 // the message of the answer stream from which its readers begin
 		for {
 			h := take(t, l, from, options, 1000)
 			h.read(t, 1+random.Intn(6))
@@ -273,7 +273,7 @@ func TestTakeoversAnswerAsOneProcess(t *testing.T) {
 	}
 }
 
-// Where nothing is answered for long, a snapshot comes all the same, and another one not at once.
+// Without answers for a long time a snapshot still comes, and the next one not at once.
 func TestASnapshotComesWithTime(t *testing.T) {
 	l := filled(1, 40)
 	h := take(t, l, 0, process.Options{Path: enginePath(t), Workers: 1, Longest: 1 << 20}, 1000)
@@ -295,7 +295,7 @@ func TestASnapshotComesWithTime(t *testing.T) {
 	}
 }
 
-// What an owner publishes that was stopped, and goes on when another has taken over, is left out by readers.
+// What a stopped owner publishes after another has taken over is ignored by readers.
 func TestASecondOwnerThatGoesOn(t *testing.T) {
 	path := enginePath(t)
 	options := process.Options{Path: path, Workers: 2, Longest: 1 << 20}
@@ -315,11 +315,10 @@ func TestASecondOwnerThatGoesOn(t *testing.T) {
 	equal(t, given(t, l), due(t, l, path))
 }
 
-// brokenVariable makes this program an engine that dies, stands still or writes nonsense at some lines, and runs the one
-// it names.
+// brokenVariable makes this program an engine that dies, hangs or writes nonsense at some lines, and runs the named engine.
 const brokenVariable = "DESK_TEST_BROKEN"
 
-// olderVariable makes that an engine that knows no model.
+// olderVariable makes it an engine that knows no model.
 const olderVariable = "DESK_TEST_OLDER"
 
 func TestMain(m *testing.M) {
@@ -359,7 +358,7 @@ func runBroken(path string) {
 	os.Exit(0)
 }
 
-// A line at which the engine dies, stands still or writes nonsense is refused, and the lines around it are answered.
+// A line at which the engine dies, hangs or writes nonsense is refused, and the lines around it are answered.
 func TestPoison(t *testing.T) {
 	path := enginePath(t)
 	l := filled(4, 40)
@@ -390,7 +389,7 @@ func TestPoison(t *testing.T) {
 	}
 }
 
-// unticketed is an answer without its ticket: a line that is refused takes none.
+// unticketed returns an answer without its ticket: a refused line takes none.
 func unticketed(text string) string {
 	if at := strings.LastIndex(text, `,"ticket":`); at >= 0 {
 		return text[:at]

@@ -8,17 +8,17 @@ import (
 	"gateway/rabbit/bus"
 )
 
-// reportPause is how often is told how far behind the partition is, and its log's end looked at.
+// reportPause is how often the partition's lag is reported and its log's end checked.
 const reportPause = 10 * time.Second
 
-// A report is what was told last.
+// A report is the last report.
 type report struct {
 	text string
 	at   time.Time
 }
 
-// tell tells how far behind the partition is, if something has changed.
-func (o *Owner) tell() {
+// reportLag reports the partition's lag, if something has changed.
+func (o *Owner) reportLag() {
 	waiting := len(o.queue.entries)
 	var seconds float64
 	if head := o.queue.head(); head != nil {
@@ -36,7 +36,7 @@ func (o *Owner) tell() {
 // An idle reader of the log has read nothing for a while.
 type idle struct{ since time.Time }
 
-// late tells whether the broker has sent no message for too long, though some are due: the reader may be lost.
+// late returns an error if the broker has sent no message for too long though some are due: the reader may be lost.
 func (i *idle) late(now time.Time, due bool) error {
 	if !due || i.since.IsZero() {
 		i.since = now
@@ -47,13 +47,13 @@ func (i *idle) late(now time.Time, due bool) error {
 	return nil
 }
 
-// A tail knows, some seconds late, where the log ends.
+// A tail knows the log's end, with some seconds' delay.
 type tail struct {
 	last   int64                 // the offset of the last message
-	read   int64                 // the offset of the last message that the owner has read
-	looked int64                 // what read was at the last look
-	marked int64                 // what read was when the end was last marked
-	mark   func() (int64, error) // marks the end, and gives the mark's offset
+	read   int64                 // the offset of the last message that the owner read
+	looked int64                 // read at the last look
+	marked int64                 // read when the end was last marked
+	mark   func() (int64, error) // marks the end, and returns the mark's offset
 }
 
 func newTail(mark func() (int64, error)) *tail {
@@ -67,15 +67,15 @@ func (t *tail) offset() int64 {
 	return atomic.LoadInt64(&t.last)
 }
 
-// reached takes in up to where the owner has read.
+// reached notes how far the owner has read.
 func (t *tail) reached(offset int64) {
 	if t != nil {
 		atomic.StoreInt64(&t.read, offset)
 	}
 }
 
-// watchTail asks from time to time where a stream ends, until the link ends or the stream can't be read: its owner's reader
-// fails then, too.
+// watchTail looks for a stream's end from time to time, until the link ends or the stream can't be read: its owner's reader
+// fails then too.
 func watchTail(link bus.Link, stream string, mark func() (int64, error)) *tail {
 	t := newTail(mark)
 	go func() {
@@ -92,8 +92,8 @@ func watchTail(link bus.Link, stream string, mark func() (int64, error)) *tail {
 	return t
 }
 
-// look asks where the log ends. The bus may take the end too high. So where messages seem to be left, and none was read since the last
-// look, the end is marked, once: each message that the bus has counted is before the mark.
+// look looks for the log's end. The bus may report it too high. So if messages seem to be left, and none was read since the
+// last look, the end is marked, once: each message that the bus counted is before the mark.
 func (t *tail) look(end bus.End) error {
 	last, err := end.Offset()
 	if err != nil {

@@ -10,13 +10,13 @@ import (
 	"gateway/rabbit/process"
 )
 
-// publishedAs says under which exchange and topic the last message was published.
+// publishedAs sets the exchange and topic of the last message.
 func (l *log) publishedAs(exchange string, topic bus.Topic) {
 	l.lines[len(l.lines)-1].At = settings.Route(exchange, topic, 0)
 }
 
-// A model under the topic of requests is dropped, and so is a message that came past the exchange of requests. The requests
-// around them are answered by the model that was sent with the right to.
+// A model under the topic of requests is dropped, and so is a message that bypassed the request exchange. The requests around
+// them are answered by the model that was properly sent.
 func TestModelsNeedTheirTopic(t *testing.T) {
 	options := process.Options{Path: enginePath(t), Workers: 1, Longest: 1 << 20}
 	l := newBatchLog()
@@ -24,7 +24,7 @@ func TestModelsNeedTheirTopic(t *testing.T) {
 	l.send("wrong", 2000, 2)
 	l.publishedAs(bus.RequestsExchange, bus.TopicLines)
 	for place := range l.due {
-		if place.Offset == 1 { // they are answered by the model in force at the batch's first line
+		if place.Offset == 1 { // they are answered by the model at the batch's first line
 			l.due[place] = fmt.Sprintf(`"result":%d,`, (100+place.Index)*3+1000)
 		}
 	}
@@ -49,7 +49,7 @@ func TestModelsNeedTheirTopic(t *testing.T) {
 	}
 }
 
-// A mark under the topic of requests is none: a sender can publish it.
+// A mark under the topic of requests doesn't count, as a sender can publish it.
 func TestMarksNeedTheirTopic(t *testing.T) {
 	l := newBatchLog()
 	in := take(t, &l.log, 0, process.Options{}, 1000).intake

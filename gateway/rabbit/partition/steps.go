@@ -7,14 +7,13 @@ import (
 	"time"
 )
 
-// How long a takeover waits at a time for a broker to do something, before it is begun anew at another one: at first, and
-// at most.
+// How long a takeover waits for a broker before it begins again at another one: at first, and at most.
 const (
 	firstPatience   = 3 * time.Second
 	longestPatience = 30 * time.Second
 )
 
-// longer is how long the next takeover is patient, behind one that failed.
+// longer returns the patience of the next takeover after a failed one.
 func longer(patience time.Duration) time.Duration {
 	if patience *= 2; patience > longestPatience {
 		return longestPatience
@@ -22,7 +21,7 @@ func longer(patience time.Duration) time.Duration {
 	return patience
 }
 
-// Steps are the steps of a takeover, with how long each took. Where nothing moves for too long, they call late.
+// A steps has a takeover's steps, and how long each took. If nothing moves for too long, late is called.
 type steps struct {
 	mutex    sync.Mutex
 	begun    time.Time
@@ -37,10 +36,10 @@ func beginSteps(patience time.Duration, late func()) *steps {
 	return &steps{begun: now, last: now, late: time.AfterFunc(patience, late), patience: patience}
 }
 
-// Moved takes in that the broker has done something.
+// Moved notes that the broker did something.
 func (s *steps) Moved() { s.late.Reset(s.patience) }
 
-// Passed takes in that a step is done.
+// Passed notes that a step is done.
 func (s *steps) Passed(what string) {
 	s.Moved()
 	s.mutex.Lock()
@@ -50,10 +49,10 @@ func (s *steps) Passed(what string) {
 	s.last = now
 }
 
-// end ends the watch over the steps.
+// end stops watching the steps.
 func (s *steps) end() { s.late.Stop() }
 
-// String is how long all took, and each step.
+// String returns how long everything took, and each step.
 func (s *steps) String() string {
 	s.mutex.Lock()
 	defer s.mutex.Unlock()

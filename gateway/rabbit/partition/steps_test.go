@@ -12,8 +12,8 @@ import (
 	"gateway/rabbit/process"
 )
 
-// Where nothing moves in a takeover it is late; where something does it isn't, however long it lasts. A machine that itself
-// pauses for longer than the patience shows nothing, so more patience is tried.
+// A takeover in which nothing moves is late; one that moves isn't, however long it lasts. If the machine itself pauses for
+// longer than the patience that shows nothing, so more patience is tried.
 func TestATakeoverThatDoesNotMove(t *testing.T) {
 	for patience := 50 * time.Millisecond; ; patience *= 2 {
 		late, begun := make(chan struct{}, 10), time.Now()
@@ -27,7 +27,7 @@ func TestATakeoverThatDoesNotMove(t *testing.T) {
 			continue
 		}
 		s.Passed("the streams are there")
-		<-late // it comes, or the test's own deadline ends it
+		<-late // it comes, or the test's deadline ends it
 		s.end()
 		if text := s.String(); !regexp.MustCompile(`^[\d.]+m?s \(the streams are there [\d.]+m?s\)$`).MatchString(text) {
 			t.Error(text)
@@ -36,8 +36,8 @@ func TestATakeoverThatDoesNotMove(t *testing.T) {
 	}
 }
 
-// moved moves again and again until so much time has passed or it is late, and gives the longest pause between two moves, or
-// between the last one and the answer whether it is late.
+// moved moves again and again until this much time has passed or it is late. It returns the longest pause between two moves, or
+// between the last one and the check whether it is late.
 func moved(s *steps, late <-chan struct{}, begun time.Time, length time.Duration) (isLate bool, longest time.Duration) {
 	for last := begun; ; time.Sleep(time.Millisecond) {
 		isLate = len(late) > 0
@@ -52,7 +52,7 @@ func moved(s *steps, late <-chan struct{}, begun time.Time, length time.Duration
 	}
 }
 
-// Patience grows from one takeover to the next, as slow as brokers may be, and has an end.
+// Patience grows from one takeover to the next, for slow brokers, up to a limit.
 func TestPatience(t *testing.T) {
 	patience := firstPatience
 	for range make([]int, 20) {
@@ -67,7 +67,7 @@ func TestPatience(t *testing.T) {
 	}
 }
 
-// An engine that could not begin is begun again soon, and later more seldom.
+// An engine that failed to start is started again soon, and later more rarely.
 func TestPausesBetweenEngines(t *testing.T) {
 	w := &work{log: silent, options: process.Options{}, queue: &queue{}, ledger: ledger.New(0), restarts: func() {}}
 	last := time.Duration(0)
@@ -75,7 +75,7 @@ func TestPausesBetweenEngines(t *testing.T) {
 		w.greeting = 1
 		before := time.Now()
 		w.ended(errors.New("it is killed"))
-		most, least := w.pause.Sub(before), time.Until(w.pause) // the pause lies between them
+		most, least := w.pause.Sub(before), time.Until(w.pause) // the pause is between them
 		if most < last || failure == 0 && least > shortestPause || least > longestPause {
 			t.Errorf("after failure %d: %v", failure, most)
 		}
@@ -86,7 +86,7 @@ func TestPausesBetweenEngines(t *testing.T) {
 	}
 }
 
-// A reader of the log is lost where nothing comes though messages are there; one for which there are none isn't.
+// A reader of the log is lost if nothing comes though messages are there, and not if there are none.
 func TestAReaderThatIsLost(t *testing.T) {
 	var i idle
 	now := time.Now()
@@ -104,7 +104,7 @@ func TestAReaderThatIsLost(t *testing.T) {
 	}
 }
 
-// A snapshot comes soon after a model, but after many models not one after each.
+// A snapshot comes soon after a model, but not after each of many models.
 func TestSnapshotsAfterModels(t *testing.T) {
 	l := &log{}
 	for number := int64(0); number < 200; number++ {

@@ -10,7 +10,7 @@ import (
 	"gateway/rabbit/memory"
 )
 
-// A high end is taken too high until it is corrected.
+// A high end is too high until it is corrected.
 type high struct {
 	bus.End
 	over, said int64
@@ -28,7 +28,7 @@ func (h *high) AtMost(offset int64) {
 	}
 }
 
-// owned is an owner in memory, for whose tail the test looks at the log's end.
+// owned returns an owner in memory; the test moves its tail.
 func owned(t *testing.T) (o *Owner, link *memory.Link, log *memory.Stream) {
 	t.Helper()
 	b := memory.New(rand.New(rand.NewSource(1)), settings)
@@ -51,7 +51,7 @@ func readAll(o *Owner, link *memory.Link) {
 		link.Deliver()
 		o.intake.take(<-o.stream.Arrivals())
 	}
-	o.tell()
+	o.reportLag()
 }
 
 func looks(t *testing.T, o *Owner, end bus.End, count int) {
@@ -63,7 +63,8 @@ func looks(t *testing.T, o *Owner, end bus.End, count int) {
 	}
 }
 
-// Where the bus takes the end of the log too high, as RabbitMQ does after retention, the owner marks it once, and has read all.
+// If the bus reports the log's end too high, as RabbitMQ does after retention, the owner marks it once, and has then read
+// everything.
 func TestAnEndThatIsTooHigh(t *testing.T) {
 	o, link, log := owned(t)
 	readAll(o, link)
@@ -81,7 +82,7 @@ func TestAnEndThatIsTooHigh(t *testing.T) {
 	}
 }
 
-// An owner that has read all marks nothing, however long it is idle.
+// An owner that has read everything marks nothing, however long it is idle.
 func TestAnEndThatIsRight(t *testing.T) {
 	o, link, log := owned(t)
 	readAll(o, link)
@@ -92,7 +93,7 @@ func TestAnEndThatIsRight(t *testing.T) {
 	}
 }
 
-// An owner whose reader is lost marks the end once, and what it has not read stays known.
+// An owner with a lost reader marks the end once, and its unread messages stay known.
 func TestUnreadMessagesStayKnown(t *testing.T) {
 	o, link, log := owned(t)
 	readAll(o, link)

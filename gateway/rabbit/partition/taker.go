@@ -27,28 +27,27 @@ func newTaker(options Options, scale scale) *taker {
 		rests: make(map[bus.Partition]time.Time), fails: make(map[bus.Partition]time.Time), closed: make(map[bus.Partition]bool)}
 }
 
-// connectionName is how people are shown a connection of this process.
+// connectionName returns the display name of this process's connections.
 func connectionName() string { return fmt.Sprintf("desk partition, process %d", os.Getpid()) }
 
-// A scale knows how many partitions there are.
+// A scale knows the number of partitions.
 type scale interface {
 	Scaling() bus.Scaling
 	Newest() (bus.Settings, <-chan struct{})
 }
 
-// A taker takes partitions over, one after the other.
+// A taker takes partitions over, one after another.
 type taker struct {
 	options  Options
 	scale    scale
 	patience time.Duration           // of the next takeover
-	last     string                  // the address that is tried last, since a takeover failed there, or empty
-	refused  map[bus.Partition]error // of partitions whose model this program's engine refuses: another program has to own them
-	// rests says until when other partitions come first than one that can't be owned before something is done.
+	last     string                  // the address to try last, as a takeover failed there, or empty
+	refused  map[bus.Partition]error // partitions whose model this program's engine refuses: another program must own them
+	// rests is until when other partitions go before one that can't be owned before something is done.
 	rests map[bus.Partition]time.Time
-	// fails says since when a partition can't be taken over.
+	// fails is since when a partition can't be taken over.
 	fails map[bus.Partition]time.Time
-	// sources are partitions of earlier numbers that have to be owned before ones of the newest; closed are those that nobody owns
-	// any more.
+	// sources are earlier partitions that must be owned before some of the newest; closed are those that nobody owns any more.
 	sources []bus.Partition
 	closed  map[bus.Partition]bool
 }
@@ -67,13 +66,13 @@ func (t *taker) work(ctx context.Context) error {
 	}
 }
 
-// lasting is how long a partition can't be taken over until its log may be lost for good.
+// lasting is how long a takeover fails before the partition's log may be lost for good.
 const lasting = 2 * time.Minute
 
 // rest is how long a partition is left alone that can't be owned before something is done.
 const rest = 30 * time.Second
 
-// partitions are those that may be owned now: those that rest too, if all others are refused.
+// partitions returns those that may be owned now: resting ones too if all others are refused.
 func (t *taker) partitions() []bus.Partition {
 	var may, resting []bus.Partition
 	for _, partition := range t.all() {
@@ -91,7 +90,7 @@ func (t *taker) partitions() []bus.Partition {
 	return may
 }
 
-// all are the newest partitions, and the earlier ones that these need.
+// all returns the newest partitions, and the earlier ones that these need.
 func (t *taker) all() []bus.Partition {
 	newest, _ := t.scale.Newest()
 	var all []bus.Partition
@@ -103,14 +102,14 @@ func (t *taker) all() []bus.Partition {
 	return all
 }
 
-// missing takes in which partitions have no queues, and reports it if that has changed.
+// missing notes the partitions without queues, and reports a change.
 func (t *taker) missing(partitions []bus.Partition) {
 	if t.options.Gauges.setMissing(partitions) && len(partitions) > 0 {
 		t.options.Log.Error("partitions %v have no queues: %v", partitions, bus.ErrMissing)
 	}
 }
 
-// failed takes in why a partition can't be owned. Where none is left that this program can own, the error is final.
+// failed notes why a partition can't be owned. The error is final if this program can own no other.
 func (t *taker) failed(partition bus.Partition, reason error) error {
 	var closed *closedError
 	var unclosed *unclosedError
@@ -142,7 +141,7 @@ func (t *taker) failed(partition bus.Partition, reason error) error {
 	return err
 }
 
-// mayBeLost takes in that a partition can't be taken over, and says what to do if that lasts.
+// mayBeLost notes that a partition can't be taken over, and says what to do if that lasts.
 func (t *taker) mayBeLost(partition bus.Partition, reason error) error {
 	since, known := t.fails[partition]
 	if !known {
@@ -158,7 +157,7 @@ func (t *taker) mayBeLost(partition bus.Partition, reason error) error {
 	return err
 }
 
-// own waits for a partition that is free, and owns it until the connection is lost.
+// own waits for a free partition, and owns it until the connection is lost.
 func (t *taker) own(ctx context.Context) error {
 	options := t.options
 	link, err := options.Bus.Connect(ctx, connectionName(), t.last)
@@ -188,13 +187,13 @@ func (t *taker) own(ctx context.Context) error {
 	return nil
 }
 
-// errRested says that partitions that could not be owned may be, now, and errChanged that there is another number of them.
+// errRested means that resting partitions may be tried again, errChanged that their number has changed.
 var (
 	errRested  = errors.New("partitions that could not be owned are looked at again")
 	errChanged = errors.New("the number of partitions has changed")
 )
 
-// wait waits for the lease of a partition, but while some rest no longer than that, nor beyond a change of how many there are.
+// wait waits for a partition's lease, until a resting one may be tried or the number of partitions changes.
 func (t *taker) wait(ctx context.Context, link bus.Link) (bus.Partition, error) {
 	newest, changed := t.scale.Newest()
 	may := t.partitions()
@@ -225,7 +224,7 @@ func (t *taker) wait(ctx context.Context, link bus.Link) (bus.Partition, error) 
 	return partition, err
 }
 
-// pause is how long so many partitions are waited for at most, while others rest; 0 says for ever.
+// pause returns how long may partitions are waited for while others rest; 0 means forever.
 func (t *taker) pause(may int) time.Duration {
 	if may+len(t.refused) == len(t.all()) {
 		return 0
@@ -239,7 +238,7 @@ func (t *taker) pause(may int) time.Duration {
 // shortRest is how long a partition is left alone whose sources aren't closed.
 const shortRest = 2 * time.Second
 
-// waitFor takes in that a partition has no state before these others are closed, which may need an owner.
+// waitFor notes that a partition has no state before others are closed, which may need an owner.
 func (t *taker) waitFor(partition bus.Partition, reason *unclosedError) error {
 	t.rests[partition] = time.Now().Add(shortRest)
 	t.options.Gauges.waitsFor(partition, reason, time.Now().Add(2*shortRest))
@@ -261,8 +260,8 @@ func (t *taker) isSource(partition bus.Partition) bool {
 	return false
 }
 
-// take takes a partition over. Where a broker does nothing for a while it fails, and next time has twice as much patience.
-// Where it fails, whatever the reason, it is begun anew at another broker.
+// take takes a partition over. If a broker does nothing for a while the takeover fails, and the next has twice the patience.
+// After any failure another broker is tried.
 func (t *taker) take(link bus.Link, partition bus.Partition) (*Owner, error) {
 	log := t.options.Log.OfPartition(partition)
 	late := fmt.Errorf("the broker did nothing for %v in a takeover", t.patience)

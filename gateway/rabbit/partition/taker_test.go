@@ -14,13 +14,13 @@ import (
 	"gateway/rabbit/logs"
 )
 
-// fixed is a number of partitions that doesn't change.
+// A fixed is a number of partitions that doesn't change.
 type fixed bus.Settings
 
 func (f fixed) Scaling() bus.Scaling                    { return bus.Scaling{All: []bus.Settings{bus.Settings(f)}} }
 func (f fixed) Newest() (bus.Settings, <-chan struct{}) { return bus.Settings(f), nil }
 
-// partitions are those with these numbers.
+// partitions returns the partitions with these numbers.
 func partitions(numbers ...int) (found []bus.Partition) {
 	for _, number := range numbers {
 		found = append(found, bus.Partition{Of: bus.Settings{Partitions: 8}, Number: number})
@@ -28,7 +28,7 @@ func partitions(numbers ...int) (found []bus.Partition) {
 	return found
 }
 
-// taken tries to take a partition over at this broker, which fails, and gives the taker and what was logged.
+// taken tries to take a partition over at this broker, which fails, and returns the taker and the log.
 func taken(t *testing.T, b *brokertest.Broker, patience time.Duration) (*taker, string) {
 	t.Helper()
 	var log bytes.Buffer
@@ -49,8 +49,8 @@ func taken(t *testing.T, b *brokertest.Broker, patience time.Duration) (*taker, 
 	return taker, log.String()
 }
 
-// A takeover at a broker that hands no message over ends when its patience does, reports the step, and goes to another
-// broker with more patience.
+// A takeover at a broker that delivers no message ends when its patience does, reports the step, and tries another broker with
+// more patience.
 func TestATakeoverAtABrokerThatDoesNothing(t *testing.T) {
 	taker, text := taken(t, brokertest.Start(t), firstPatience)
 	if taker.patience != longer(firstPatience) {
@@ -61,7 +61,7 @@ func TestATakeoverAtABrokerThatDoesNothing(t *testing.T) {
 	}
 }
 
-// A broker that refuses says nothing of how slow others are.
+// A broker that refuses says nothing about how slow others are.
 func TestATakeoverAtABrokerThatRefuses(t *testing.T) {
 	b := brokertest.Start(t)
 	b.Refuses = func(queue string) bool { return brokertest.Is(queue, "answers", "0") }
@@ -74,7 +74,7 @@ func TestATakeoverAtABrokerThatRefuses(t *testing.T) {
 	}
 }
 
-// A partition that can't be taken over for long is told with what to do.
+// A partition that can't be taken over for long is reported, with what to do.
 func TestAPartitionWhoseLogMayBeLost(t *testing.T) {
 	b := brokertest.Start(t)
 	b.Refuses = func(queue string) bool { return brokertest.Is(queue, "answers", "0") }

@@ -14,7 +14,7 @@ import (
 	"gateway/rabbit/memory"
 )
 
-// A snapshot that can't be read is skipped in a takeover for the one before, logged and counted.
+// A takeover skips an unreadable snapshot for the one before, and logs and counts it.
 func TestASnapshotThatCanNotBeRead(t *testing.T) {
 	b := memory.New(rand.New(rand.NewSource(1)), settings)
 	b.Steady = true

@@ -13,12 +13,11 @@ import (
 	"gateway/rabbit/process"
 )
 
-// readyBytes is how much of answers may wait for their turn before the engine is given one line at a time.
+// readyBytes is how many bytes of answers may wait for their turn before the engine gets one line at a time.
 const readyBytes = 4 * bus.WindowBytes
 
-// A work lets the engine answer the entries of a queue. Where the engine dies, comes to a line's deadline, or answers
-// too much before its turn, it is begun anew, and is given the lines that it had one at a time: so the line at fault is
-// found, and refused.
+// A work lets the engine answer a queue's entries. If the engine dies, exceeds a line's deadline, or answers too much before
+// its turn, it is started again, and given its lines one at a time: so the faulty line is found, and refused.
 type work struct {
 	log      *logs.Log
 	options  process.Options
@@ -27,31 +26,31 @@ type work struct {
 	ledger   *ledger.Ledger // of all that is settled
 	process  Evaluator
 	begin    func(process.Options) (Evaluator, error)
-	restarts func() // is called when the engine is begun anew
+	restarts func() // is called when the engine is started again
 
-	next     int                        // the first entry of the queue that isn't given
-	models   *ledger.Models             // what is in force for the batches at that entry
-	inForce  []byte                     // the model that the engine has, or nil
-	going    [][]byte                   // given, and not yet handed to the engine
+	next     int                        // the queue's first entry that isn't given
+	models   *ledger.Models             // each batch's model at that entry
+	inForce  []byte                     // the engine's model, or nil
+	going    [][]byte                   // given, and not yet passed to the engine
 	fault    error                      // why the partition can't be owned any longer
-	model    *entry                     // a model that was given and isn't answered: nothing else is given before
-	waiting  [line.Clients + 1][]*entry // given, of each client and of none; some of the first may be answered
-	byLine   handed                     // by their number in the engine's input
-	lines    int64                      // that the engine was given
-	greeting int                        // so many of the engine's first lines are without an answer
+	model    *entry                     // a given, unanswered model: nothing else is given before
+	waiting  [line.Clients + 1][]*entry // given, for each client and for none; some of the first may be answered
+	byLine   handed                     // by number in the engine's input
+	lines    int64                      // lines given to the engine
+	greeting int                        // how many of the engine's first lines are unanswered
 	base     [line.Clients]int64        // the tickets before the engine's first
-	failed   int                        // so many engines in a row ended before they were greeted
+	failed   int                        // how many engines in a row ended before they were greeted
 	pause    time.Time                  // no engine is started before
-	taken    time.Time                  // when the partition was taken over, until the first engine has begun
+	taken    time.Time                  // when the partition was taken over, until the first engine has started
 	started  time.Time                  // when the engine was started
-	careful  int                        // so many entries of the queue are given one at a time
+	careful  int                        // how many entries of the queue are given one at a time
 	died     *entry                     // the entry at which the engine died alone
-	oldest   *entry                     // the entry that is the first without an answer
-	age      int                        // for so many ticks
+	oldest   *entry                     // the first unanswered entry
+	age      int                        // for how many ticks
 	lonely   bool                       // whether the engine had no other entry all that time
 }
 
-// An Evaluator is an engine: it answers the lines that it is given, in the order of each client's.
+// An Evaluator is an engine. It answers the given lines, in each client's order.
 type Evaluator interface {
 	Give(lines [][]byte)
 	Answers() <-chan []process.Answer
@@ -59,7 +58,7 @@ type Evaluator interface {
 	Err() error
 }
 
-// beginProcess begins an engine that is a process.
+// beginProcess starts an engine process.
 func beginProcess(options process.Options) (Evaluator, error) {
 	started, err := process.Start(options)
 	if err != nil {
@@ -68,7 +67,7 @@ func beginProcess(options process.Options) (Evaluator, error) {
 	return started, nil
 }
 
-// How long an engine is left alone that has died at no line: twice as long each time.
+// The pause after an engine died at no line: twice as long each time.
 const (
 	shortestPause = 250 * time.Millisecond
 	longestPause  = 10 * time.Second
@@ -82,7 +81,7 @@ var (
 	errRefusedModel = errors.New("the engine refuses the model in force: a program that takes it has to own the partition")
 )
 
-// give gives the engine the entries that it may have, together.
+// give gives the engine the entries that it may have.
 func (w *work) give() error {
 	err := w.choose()
 	if w.process != nil && len(w.going) > 0 {
@@ -113,7 +112,7 @@ func (w *work) choose() error {
 	return nil
 }
 
-// needed is the model that is in force for an entry, the first of the queue that isn't given.
+// needed returns the model for the queue's first entry that isn't given.
 func (w *work) needed(e *entry) []byte {
 	if e.first {
 		return w.models.Last()
@@ -121,13 +120,13 @@ func (w *work) needed(e *entry) []byte {
 	return w.models.At(e.from.Key())
 }
 
-// ready makes the engine ready for an entry, and says whether it is.
+// ready prepares the engine for an entry, and reports whether it is ready.
 func (w *work) ready(e *entry) (bool, error) {
 	if w.careful > 0 && w.byLine.open > 0 || w.queue.ready > bus.WindowBytes || w.model != nil || w.greeting > 0 {
 		return false, nil
 	}
 	model := w.needed(e)
-	if ledger.IsUnknown(model) { // of a model, which needs none
+	if ledger.IsUnknown(model) { // unless it is a model, which needs none
 		model = w.inForce
 	}
 	if w.process == nil {
@@ -142,7 +141,7 @@ func (w *work) ready(e *entry) (bool, error) {
 	if w.byLine.open > 0 { // each is answered by the model under which it was given
 		return false, nil
 	}
-	if model == nil { // no line takes a model away
+	if model == nil { // no line unloads a model
 		w.end()
 		return false, nil
 	}
@@ -150,13 +149,13 @@ func (w *work) ready(e *entry) (bool, error) {
 	return false, nil
 }
 
-// passed takes in that the next entry is given, or settled.
+// passed notes that the next entry is given, or settled.
 func (w *work) passed(e *entry) {
 	w.next++
 	w.advance(e)
 }
 
-// advance takes in what an entry changes of the models in force.
+// advance notes what an entry changes in the loaded models.
 func (w *work) advance(e *entry) {
 	if e.lost != nil && e.lost.hasModel() {
 		w.models.Lose()
@@ -184,8 +183,8 @@ func (w *work) giveOne(e *entry) {
 	w.going = append(w.going, e.line.Engine)
 }
 
-// start starts an engine, and greets it. It is given lines once it has answered: so an engine that can do nothing is not
-// taken for one that dies at a line.
+// start starts an engine, and greets it. It gets lines once it has answered, so an engine that can do nothing is not taken for
+// one that dies at a line.
 func (w *work) start(model []byte) error {
 	started, err := w.begin(w.options)
 	if err != nil {
@@ -209,7 +208,7 @@ func (w *work) greet(model []byte) {
 	w.greeting, w.inForce = int(w.lines-before), model
 }
 
-// end ends the engine, and takes back what it was given.
+// end ends the engine, and takes back its lines.
 func (w *work) end() {
 	if w.process != nil {
 		w.process.End()
@@ -219,7 +218,7 @@ func (w *work) end() {
 	w.oldest, w.age, w.greeting = nil, 0, 0
 }
 
-// again begins the engine anew, carefully.
+// again starts the engine again, carefully.
 func (w *work) again(reason error) {
 	w.log.Warning("%v; it is begun anew", reason)
 	w.end()
@@ -234,13 +233,13 @@ func (w *work) again(reason error) {
 	w.careful = len(w.queue.entries)
 }
 
-// ended takes in that the engine has ended by itself, or has to be.
+// ended notes that the engine has ended by itself, or must end.
 func (w *work) ended(reason error) {
 	if w.greeting > 0 {
 		w.neverGreeted(reason)
 		return
 	}
-	e := w.byLine.only() // the one that the engine is at
+	e := w.byLine.only() // the one that the engine is processing
 	w.again(reason)
 	if e != nil && e == w.died {
 		w.refuse(e, answer.Died)
@@ -248,7 +247,7 @@ func (w *work) ended(reason error) {
 	w.died = e
 }
 
-// neverGreeted takes in that an engine could do nothing, for which no line is to blame.
+// neverGreeted notes that an engine could do nothing, which is no line's fault.
 func (w *work) neverGreeted(reason error) {
 	if w.failed++; w.failed == 1 || w.failed%100 == 0 {
 		w.log.Error("%d engines in a row could not begin: %v", w.failed, reason)
@@ -262,7 +261,7 @@ func (w *work) neverGreeted(reason error) {
 	w.pause = time.Now().Add(pause)
 }
 
-// tick takes in that a tick has passed. A tick counts as one, however late it comes: who was stopped and goes on gives
+// tick notes that a tick has passed. It counts as one, however late it comes: so a process that was stopped and continues gives
 // each line its time.
 func (w *work) tick() {
 	head := w.queue.head()
@@ -280,8 +279,7 @@ func (w *work) tick() {
 	}
 }
 
-// late takes in that the engine has not answered the first entry in its time. If it had others meanwhile, these may be
-// at fault.
+// late notes that the engine has not answered the first entry in time. If it had others meanwhile, these may be at fault.
 func (w *work) late(head *entry) {
 	if w.greeting > 0 {
 		w.neverGreeted(errors.New("the engine does not answer"))
@@ -294,14 +292,14 @@ func (w *work) late(head *entry) {
 	}
 }
 
-// refuse answers an entry in the engine's stead.
+// refuse answers an entry without the engine.
 func (w *work) refuse(e *entry, reason answer.Reason) {
 	w.log.Warning("line %v is refused: %s", e.place, reason)
 	e.refuse(reason)
 	w.queue.ready += len(e.text)
 }
 
-// take takes in what the engine answers.
+// take takes the engine's answers.
 func (w *work) take(batch []process.Answer) {
 	for _, given := range batch {
 		if err := w.takeOne(given); err != nil { // as if it had died there
@@ -348,14 +346,14 @@ func (w *work) greeted(a answer.Answer) error {
 		return errConfused
 	}
 	if w.greeting--; w.greeting == 0 {
-		w.failed, w.oldest = 0, nil // the time of the first line begins now
-		w.tellBegun()
+		w.failed, w.oldest = 0, nil // the first line's time begins now
+		w.reportBegun()
 	}
 	return nil
 }
 
-// tellBegun tells how long the first engine behind a takeover took.
-func (w *work) tellBegun() {
+// reportBegun reports how long the first engine after a takeover took.
+func (w *work) reportBegun() {
 	if w.taken.IsZero() {
 		return
 	}
@@ -365,8 +363,8 @@ func (w *work) tellBegun() {
 	w.taken = time.Time{}
 }
 
-// answer answers an entry as the engine did, but for the number of the ticket or the line: the engine counts from its
-// own begin, and the log from its.
+// answer answers an entry as the engine did, except for the ticket or line number: the engine counts from its start, the log
+// from its own.
 func (w *work) answer(e *entry, a answer.Answer) {
 	number := e.number
 	if a.Ticket {
@@ -385,7 +383,7 @@ func (w *work) answer(e *entry, a answer.Answer) {
 	}
 }
 
-// find finds the entry that is answered: the one with the line's number, or else the client's first without an answer.
+// find finds the answered entry: the one with the line's number, or else the client's first unanswered one.
 func (w *work) find(a answer.Answer) *entry {
 	e := w.byLine.at(a.Number)
 	if a.Ticket {
@@ -408,7 +406,7 @@ func (w *work) firstOf(client int) *entry {
 	return nil
 }
 
-// dropped takes in that the first entry of the queue is gone.
+// dropped notes that the queue's first entry is gone.
 func (w *work) dropped(e *entry) {
 	if w.next > 0 {
 		w.next--

@@ -1,4 +1,4 @@
-// Package process runs one process of the engine, desk serve, for a partition.
+// Package process runs an engine process, desk serve, for a partition.
 package process
 
 import (
@@ -13,10 +13,10 @@ import (
 	"gateway/rabbit/line"
 )
 
-// keptBytes is how much of the end of an answer that is too long is kept: enough for its ticket.
+// keptBytes is how much of the end of an answer is kept that is too long: enough for its ticket.
 const keptBytes = 64
 
-// usualBytes is how long most answers are at most, and roomBytes is the room for some of them.
+// usualBytes is the length of most answers at most, roomBytes the room for some of them.
 const (
 	usualBytes = 512
 	roomBytes  = 32 << 10
@@ -25,21 +25,21 @@ const (
 // Capacity is how many requests of one client the engine evaluates at a time.
 const Capacity = 64
 
-// An Answer is a line of the engine. Of one that is too long the beginning and the end are kept alone.
+// An Answer is a line of the engine. If it is too long, only its beginning and end are kept.
 type Answer struct {
 	Text    []byte
 	TooLong bool
 }
 
-// Options say which program is run, and how.
+// Options says which program runs, and how.
 type Options struct {
 	Path    string
 	Workers int
 	Longest int    // how many bytes an answer may have
-	Memory  uint64 // how many bytes the engine's address space may have; 0 is no limit
+	Memory  uint64 // the limit of the engine's address space in bytes; 0 means none
 }
 
-// A Process is one process of the engine. What is given to it waits in memory until the engine reads it.
+// A Process is an engine process. Its lines wait in memory until the engine reads them.
 type Process struct {
 	running *engine.Running
 	answers chan []Answer
@@ -49,7 +49,7 @@ type Process struct {
 	wake    *sync.Cond
 	waiting [][]byte // given, and not yet written
 	ended   bool
-	err     error // why it ended; to be asked once answers is closed
+	err     error // why it ended; read it once answers is closed
 }
 
 // Start starts the engine.
@@ -66,7 +66,7 @@ func Start(options Options) (*Process, error) {
 	return p, nil
 }
 
-// Give gives the engine lines, without their line ends.
+// Give gives the engine lines, without their newlines.
 func (p *Process) Give(lines [][]byte) {
 	p.mutex.Lock()
 	p.waiting = append(p.waiting, lines...)
@@ -74,10 +74,10 @@ func (p *Process) Give(lines [][]byte) {
 	p.wake.Signal()
 }
 
-// Answers has what the engine answers. It is closed once the engine has ended.
+// Answers has the engine's answers. It is closed once the engine has ended.
 func (p *Process) Answers() <-chan []Answer { return p.answers }
 
-// Err is why the engine ended. It is to be asked once Answers is closed.
+// Err returns why the engine ended. Call it once Answers is closed.
 func (p *Process) Err() error { return p.err }
 
 // End ends the engine. Its last answers may be lost.
@@ -85,7 +85,7 @@ func (p *Process) End() {
 	p.running.Kill()
 	p.stopWriting()
 	go func() {
-		for range p.answers { // so that its reader comes to its end
+		for range p.answers { // so that its reader ends
 		}
 	}()
 }
@@ -110,12 +110,12 @@ func (p *Process) write(input io.WriteCloser) {
 			output.WriteByte('\n')
 		}
 		if output.Flush() != nil {
-			return // the engine has ended, which its reader tells
+			return // the engine has ended, which its reader reports
 		}
 	}
 }
 
-// next waits for lines to write; nil says that none will come.
+// next waits for lines to write; nil means that none will come.
 func (p *Process) next() [][]byte {
 	p.mutex.Lock()
 	defer p.mutex.Unlock()
@@ -133,7 +133,7 @@ func (p *Process) next() [][]byte {
 func (p *Process) read(output io.Reader) {
 	reader := bufio.NewReaderSize(output, 256<<10)
 	var batch []Answer
-	var room []byte // for the texts of some answers, which take less time together
+	var room []byte // for the texts of several answers, which is faster
 	for {
 		if cap(room)-len(room) < usualBytes {
 			room = make([]byte, 0, roomBytes)
@@ -167,7 +167,7 @@ func min(a, b int) int {
 	return b
 }
 
-// readAnswer reads an answer. Its text is put into the room where that has enough.
+// readAnswer reads an answer. Its text goes into the room if that suffices.
 func (p *Process) readAnswer(reader *bufio.Reader, room []byte) (Answer, error) {
 	a := Answer{Text: room}
 	for {

@@ -9,13 +9,13 @@ import (
 	"gateway/rabbit/ledger"
 )
 
-// A scale knows how many partitions there are.
+// A scale knows the number of partitions.
 type scale interface {
 	Scaling() bus.Scaling
 	Newest() (bus.Settings, <-chan struct{})
 }
 
-// Rescaled takes in how many partitions there are now.
+// Rescaled notes the current number of partitions.
 func (r *Receiver) Rescaled() {
 	if r.options.Scale == nil {
 		return
@@ -25,7 +25,7 @@ func (r *Receiver) Rescaled() {
 	}
 }
 
-// add adds the partitions of the next number of them.
+// add adds the partitions of the next number.
 func (r *Receiver) add(of bus.Settings) {
 	added := epoch{Settings: of}
 	for _, at := range of.Each() {
@@ -38,13 +38,13 @@ func (r *Receiver) find(at bus.Partition) *received {
 	return r.epochs[at.Of.Epoch].partitions[at.Number]
 }
 
-// end takes in that nothing of a partition counts any more.
+// end notes that a partition no longer counts.
 func (r *Receiver) end(partition *received) {
 	partition.over, r.dirty, r.moved = true, true, time.Now()
 }
 
-// Readers are those of the partitions that are read now: not of one that is over, nor of one from which keys come that isn't. So the
-// answers to each key come in order.
+// Readers returns the readers of the current partitions: not of one that is over, nor of one whose keys come from one that
+// isn't. So the answers for each key come in order.
 func (r *Receiver) Readers() (readers []*Reader) {
 	for at := range r.epochs {
 		for _, partition := range r.epochs[at].partitions {
@@ -74,7 +74,7 @@ func (r *Receiver) mayBegin(at int, partition *received) bool {
 	return true
 }
 
-// follows says whether some partition from which the keys of this one come was read: then it is read from its first answer on.
+// follows reports whether an earlier partition of its keys was read: then it is read from its first answer on.
 func (r *Receiver) follows(at int, partition *received) bool {
 	for _, source := range r.sources(at, partition) {
 		if source.stream >= 0 {
@@ -84,7 +84,7 @@ func (r *Receiver) follows(at int, partition *received) bool {
 	return false
 }
 
-// sources are the partitions from which the keys of this one come.
+// sources returns the earlier partitions of its keys.
 func (r *Receiver) sources(at int, partition *received) (sources []*received) {
 	if at == 0 {
 		return nil
@@ -96,17 +96,17 @@ func (r *Receiver) sources(at int, partition *received) (sources []*received) {
 	return sources
 }
 
-// A feeding hands a receiver what its readers read, each in a goroutine of its own.
+// A feeding passes a receiver what its readers read, each in its own goroutine.
 type feeding struct {
 	*Receiver
 	reading  context.Context
 	messages chan message
 	faults   chan error
 	stops    map[*Reader]context.CancelFunc
-	known    <-chan struct{} // is closed once more is known of how many partitions there are
+	known    <-chan struct{} // is closed once more is known of the number of partitions
 }
 
-// start starts the readers that aren't started, and stops those that are over.
+// start starts readers, and stops those that are over.
 func (r *feeding) start() {
 	if r.options.Scale != nil {
 		_, r.known = r.options.Scale.Newest()
@@ -133,10 +133,10 @@ func (r *feeding) start() {
 	}
 }
 
-// changed is closed once there may be another number of partitions.
+// changed returns a channel that is closed once the number of partitions may have changed.
 func (r *feeding) changed() <-chan struct{} { return r.known }
 
-// take takes a message in, or that there is nothing more of a partition.
+// take takes a message, or the end of a partition.
 func (r *feeding) take(m message) error {
 	partition := r.find(m.partition)
 	if partition.over {
@@ -153,7 +153,7 @@ func (r *feeding) take(m message) error {
 	return nil
 }
 
-// restoreEpoch goes back to the places of the partitions of one number of them.
+// restoreEpoch restores the places of the partitions of one number.
 func (r *Receiver) restoreEpoch(of epochPlaces) error {
 	if of.Epoch >= int64(len(r.epochs)) || len(of.Partitions) != r.epochs[of.Epoch].Partitions {
 		return fmt.Errorf("the place in %s is of other partitions than the brokers'", r.options.Place)
@@ -166,7 +166,7 @@ func (r *Receiver) restoreEpoch(of epochPlaces) error {
 	return nil
 }
 
-// places are where the receiver stands.
+// places returns the receiver's places.
 func (r *Receiver) places() *places {
 	p := &places{Output: r.written, Sum: r.sum}
 	for _, of := range r.epochs {

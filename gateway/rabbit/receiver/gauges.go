@@ -9,18 +9,18 @@ import (
 	"gateway/rabbit/metrics"
 )
 
-// Gauges are what a receiver tells of itself. NewGauges makes them.
+// Gauges has a receiver's metrics. NewGauges makes them.
 type Gauges struct {
 	*metrics.Partitions
-	gaps int64 // of requests or answers that are lost
+	gaps int64 // of lost requests or answers
 }
 
-// NewGauges are those of a receiver that has read nothing.
+// NewGauges returns the gauges of a receiver that has read nothing.
 func NewGauges() *Gauges { return &Gauges{Partitions: metrics.NewPartitions("receive")} }
 
 func (g *Gauges) lost() { atomic.AddInt64(&g.gaps, 1) }
 
-// Ready tells whether each partition is read, and what was lost.
+// Ready reports whether each partition is read, and what was lost.
 func (g *Gauges) Ready() (bool, string) {
 	is, said := g.Partitions.Ready()
 	if gaps := atomic.LoadInt64(&g.gaps); gaps > 0 {
@@ -29,7 +29,7 @@ func (g *Gauges) Ready() (bool, string) {
 	return is, said
 }
 
-// Collectors are the metrics.
+// Collectors returns the metrics.
 func (g *Gauges) Collectors() []prometheus.Collector {
 	options := prometheus.CounterOpts{Namespace: g.Namespace(), Name: "lost_gaps_total",
 		Help: "Gaps of requests or answers, for each of which a line was written."}

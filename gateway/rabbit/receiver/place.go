@@ -14,38 +14,38 @@ import (
 	"gateway/rabbit/ledger"
 )
 
-// A place is where a receiver stands in the answers of one partition.
+// A place is a receiver's place in the answers of one partition.
 type place struct {
-	Stream int64        `json:"stream"`         // the offset of the last message that was read, or -1
+	Stream int64        `json:"stream"`         // the offset of the last message read, or -1
 	Known  bool         `json:"known"`          // whether Upto is known
 	Upto   ledger.Place `json:"upto"`           // the last line whose answer was written
 	Hole   bool         `json:"hole,omitempty"` // whether offsets are missing since then
-	Over   bool         `json:"over,omitempty"` // whether nothing of it counts any more: its keys have other partitions
+	Over   bool         `json:"over,omitempty"` // whether it no longer counts: its keys have other partitions
 }
 
-// places are what the file of --place holds.
+// A places is the content of the --place file.
 type places struct {
 	Partitions []place       `json:"partitions"`       // of the first number of partitions
-	Later      []epochPlaces `json:"epochs,omitempty"` // of later ones
-	Output     int64         `json:"output"`           // how many bytes of the output's file belong to it
-	Sum        string        `json:"sum"`              // SHA-256 of the last sumBytes of these
+	Later      []epochPlaces `json:"epochs,omitempty"` // of later numbers
+	Output     int64         `json:"output"`           // how many bytes of the output belong to it
+	Sum        string        `json:"sum"`              // SHA-256 of their last sumBytes
 }
 
-// epochPlaces are those of the partitions of one number of them.
+// An epochPlaces has the places of the partitions of one number.
 type epochPlaces struct {
 	Epoch      int64   `json:"epoch"`
 	Partitions []place `json:"partitions"`
 }
 
-// epochs are the places of each number of partitions.
+// epochs returns the places for each number of partitions.
 func (p *places) epochs() []epochPlaces {
 	return append([]epochPlaces{{Partitions: p.Partitions}}, p.Later...)
 }
 
-// sumBytes is how much of the end of an output is summed up: enough to know another file, and little to read back.
+// sumBytes is how much of an output's end is summed: enough to recognize another file, and little to read back.
 const sumBytes = 1 << 20
 
-// sumBefore is the sum of the end of a file of this length.
+// sumBefore returns the sum of the end of a file of this length.
 func sumBefore(file *os.File, length int64) (string, error) {
 	begin := length - sumBytes
 	if begin < 0 {
@@ -58,7 +58,7 @@ func sumBefore(file *os.File, length int64) (string, error) {
 	return hex.EncodeToString(hash.Sum(nil)), nil
 }
 
-// readPlaces reads the file, where there is one; nil where there is none.
+// readPlaces reads the file; nil if there is none.
 func readPlaces(path string, partitions int) (*places, error) {
 	text, err := os.ReadFile(path)
 	if errors.Is(err, fs.ErrNotExist) {
@@ -77,7 +77,7 @@ func readPlaces(path string, partitions int) (*places, error) {
 	return &p, nil
 }
 
-// write replaces the file as a whole.
+// write replaces the whole file.
 func (p *places) write(path string) error {
 	text, err := json.Marshal(p)
 	if err != nil {

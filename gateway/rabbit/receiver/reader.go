@@ -10,49 +10,48 @@ import (
 	"gateway/rabbit/bus"
 )
 
-// A message of one partition.
+// A message is a message of one partition.
 type message struct {
 	partition bus.Partition
-	over      bool // it is no message: there is nothing more of the partition
+	over      bool // it is no message: the partition has ended
 	bus.Message
 }
 
-// A Reader reads the answers of one partition, over a connection of its own: where one partition can't be read, the others
-// go on.
+// A Reader reads one partition's answers over its own connection. If one partition can't be read, the others continue.
 type Reader struct {
 	options   Options
 	partition bus.Partition
-	begin     bus.From      // where it is begun
-	follows   bool          // whether it goes on where others were read: then no answer of it may be left out
-	quiet     time.Duration // how long the stream may say nothing at first; 0 is for ever
+	begin     bus.From      // where to begin
+	follows   bool          // whether it continues others that were read: then it may skip no answer
+	quiet     time.Duration // how long the stream may be silent at first; 0 means forever
 	streams   int           // how many streams are read at once
-	pause     time.Duration // after which it is looked at whether there is something to read
-	last      int64         // the offset of the last message that was handed on, or -1
-	end       int64         // the end of the stream for which a broker was left that sent nothing
+	pause     time.Duration // how often to check whether there is something to read
+	last      int64         // the offset of the last message passed on, or -1
+	end       int64         // the end of the stream for which a silent broker was left
 	left      string        // the address of that broker
 	messages  chan<- message
-	faults    chan<- error // takes an error with which all ends
+	faults    chan<- error // takes a fatal error
 	mutex     sync.Mutex
-	tried     bool  // whether the partition was read from, or could not be
+	tried     bool  // whether reading has worked or failed once
 	failure   error // why the partition can't be read now
 	later     bool  // whether there is a later number of partitions
 }
 
-// setLater takes in whether there is a later number of partitions.
+// setLater notes whether there is a later number of partitions.
 func (r *Reader) setLater(is bool) {
 	r.mutex.Lock()
 	defer r.mutex.Unlock()
 	r.later = is
 }
 
-// isUnread says whether nothing was read of a partition that may be closed.
+// isUnread reports whether nothing was read of a partition that may be closed.
 func (r *Reader) isUnread() bool {
 	r.mutex.Lock()
 	defer r.mutex.Unlock()
 	return r.later && r.last < 0
 }
 
-// Partition is which one is read.
+// Partition returns the reader's partition.
 func (r *Reader) Partition() bus.Partition { return r.partition }
 
 // work reads until the context ends.
@@ -77,7 +76,7 @@ func (r *Reader) work(ctx context.Context) {
 	}
 }
 
-// failed takes in why the partition can't be read, or nil once it can.
+// failed notes why the partition can't be read, or nil once it can.
 func (r *Reader) failed(err error) {
 	r.mutex.Lock()
 	r.tried, r.failure = true, err
@@ -91,7 +90,7 @@ func (r *Reader) isTried() bool {
 	return r.tried
 }
 
-// fault says why the partition can't be read, or nil where it can.
+// fault returns why the partition can't be read, or nil.
 func (r *Reader) fault() error {
 	r.mutex.Lock()
 	defer r.mutex.Unlock()
@@ -141,7 +140,7 @@ func (r *Reader) run(ctx context.Context) error {
 	}
 }
 
-// after is when a time is over; never, where it is 0.
+// after returns a channel for when a time is over; never if it is 0.
 func after(while time.Duration) <-chan time.Time {
 	if while == 0 {
 		return nil
@@ -149,7 +148,7 @@ func after(while time.Duration) <-chan time.Time {
 	return time.After(while)
 }
 
-// handOn hands a message on, unless the connection ends before.
+// handOn passes a message on, unless the connection ends first.
 func (r *Reader) handOn(ctx context.Context, link bus.Link, next bus.Message) error {
 	select {
 	case r.messages <- message{partition: r.partition, Message: next}:
@@ -162,7 +161,7 @@ func (r *Reader) handOn(ctx context.Context, link bus.Link, next bus.Message) er
 	}
 }
 
-// reportOver reports that there is nothing more of the partition, and waits to be stopped.
+// reportOver reports the partition's end, and waits to be stopped.
 func (r *Reader) reportOver(ctx context.Context) error {
 	r.failed(nil)
 	select {
@@ -173,7 +172,7 @@ func (r *Reader) reportOver(ctx context.Context) error {
 	return ctx.Err()
 }
 
-// Open connects, and reads on.
+// Open connects, and continues reading.
 func (r *Reader) Open(ctx context.Context) (bus.Link, bus.Reader, error) {
 	link, err := r.options.Bus.Connect(ctx, "desk receive", r.left)
 	if err != nil {
@@ -191,7 +190,7 @@ func (r *Reader) Open(ctx context.Context) (bus.Link, bus.Reader, error) {
 	return nil, nil, err
 }
 
-// errOver says that nothing of a partition is to be read: its log is closed, and its answers are before where they are wanted.
+// errOver means that nothing of a partition is to be read: its log is closed, and its answers are before the wanted ones.
 var errOver = errors.New("nothing of it is to be read")
 
 // read reads the stream of answers.
@@ -220,7 +219,7 @@ func (r *Reader) read(link bus.Link) (bus.Reader, error) {
 	return stream, r.pin(link)
 }
 
-// history is what the end of the stream says.
+// history returns what the stream's end says.
 func (r *Reader) history(link bus.Link) (*bus.History, error) {
 	publisher, err := link.Appender()
 	if err != nil {
@@ -233,18 +232,18 @@ func (r *Reader) history(link bus.Link) (*bus.History, error) {
 	return h, publisher.Close()
 }
 
-// quietTime is how long a closed stream may say nothing, where it is read from a time on: then all of it is before that time.
+// quietTime is how long a closed stream that is read from a time on may be silent: then all of it is before that time.
 const quietTime = 10 * time.Second
 
-// Took takes in that a message was handed on.
+// Took notes that a message was passed on.
 func (r *Reader) Took(message bus.Message) {
 	r.mutex.Lock()
 	defer r.mutex.Unlock()
 	r.last = message.Offset
 }
 
-// pin publishes a mark in a stream that is read from its end on, and of which nothing was read yet. So there is a place to
-// go on from, and what is answered while the receiver is away is not missed.
+// pin publishes a mark in a stream that is read from its end on and of which nothing was read yet. This gives a place to
+// continue from, so that answers during the receiver's absence are not missed.
 func (r *Reader) pin(link bus.Link) error {
 	if r.begin.Place != bus.Next || r.last >= 0 {
 		return nil

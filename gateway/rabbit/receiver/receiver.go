@@ -17,37 +17,37 @@ import (
 	"gateway/rabbit/logs"
 )
 
-// savePause is how often the place is written, where something came.
+// savePause is how often the place is written if something came.
 const savePause = 250 * time.Millisecond
 
-// Options say what is received, and where it goes.
+// Options says what is received, and where it goes.
 type Options struct {
 	Bus      bus.Bus
-	Settings bus.Settings // how many partitions there were first
-	Scale    scale        // knows of later numbers; nil where there are none
-	From     bus.From     // for partitions that the place doesn't know
-	Place    string       // the file that keeps the place, or empty
-	Output   *os.File     // where answers go, unless Each is handed them
+	Settings bus.Settings // the first number of partitions
+	Scale    scale        // knows later numbers; nil if there are none
+	From     bus.From     // for partitions without a place
+	Place    string       // the file with the place, or empty
+	Output   *os.File     // takes the answers, unless Each does
 	Each     func(line []byte, record answer.Record) error
-	File     bool          // whether Output is a file of its own, whose length belongs to the place
-	Idle     time.Duration // after so long without an answer it ends; 0 says never
+	File     bool          // whether Output is its own file, whose length belongs to the place
+	Idle     time.Duration // it ends after this long without an answer; 0 means never
 	Log      *logs.Log
-	Gauges   *Gauges // new ones, where it is nil
+	Gauges   *Gauges // new ones if nil
 }
 
-// A Receiver writes the answers that it is handed.
+// A Receiver writes answers.
 type Receiver struct {
 	options Options
 	output  *bufio.Writer
-	written int64  // the length of the output's file
-	sum     string // of its end, as the place has it
+	written int64  // the output's length
+	sum     string // of its end, as in the place
 	epochs  []epoch
-	gaps    int       // of requests or answers that are lost, for each of which a line is written
-	dirty   bool      // whether something is written, and the place isn't
+	gaps    int       // of lost requests or answers, for each of which a line is written
+	dirty   bool      // whether something is written and its place isn't
 	moved   time.Time // when the last answer came
 }
 
-// A received partition has been read so far.
+// A received is the state of a partition.
 type received struct {
 	at     bus.Partition
 	stream int64        // the offset of the last message, or -1
@@ -57,14 +57,14 @@ type received struct {
 	reader *Reader      // once it is read
 }
 
-// An epoch has the partitions of one number of them.
+// An epoch has the partitions of one number.
 type epoch struct {
 	bus.Settings
 	partitions []*received
 }
 
-// Receive writes answers until the context ends, or none came for a while. The error says which partitions could not be
-// read at the end, or that some requests or answers are lost.
+// Receive writes answers until the context ends, or none came for a while. The error names partitions that could not be read at
+// the end, or says that requests or answers are lost.
 func Receive(ctx context.Context, options Options) error {
 	r, err := New(options)
 	if err != nil {
@@ -128,7 +128,7 @@ func (r *feeding) write(ctx context.Context) error {
 	}
 }
 
-// idled says whether nothing came for a while. That begins once each partition was reached, or could not be.
+// idled reports whether nothing came for a while since each partition was reached, or failed.
 func (r *Receiver) idled() bool {
 	if r.options.Idle == 0 {
 		return false
@@ -142,7 +142,7 @@ func (r *Receiver) idled() bool {
 	return time.Since(r.moved) > r.options.Idle
 }
 
-// New is a receiver that stands at the place in its file.
+// New returns a receiver at the place in its file.
 func New(options Options) (*Receiver, error) {
 	if options.Gauges == nil {
 		options.Gauges = NewGauges()
@@ -162,12 +162,11 @@ func New(options Options) (*Receiver, error) {
 	return r, nil
 }
 
-// ErrNotEmpty says that nothing tells how much of an output belongs to the answers.
+// ErrNotEmpty means that it is not known how much of an output belongs to the answers.
 var ErrNotEmpty = errors.New("the output is not empty, and no place says where it goes on: give another file, or the --place that belongs to it")
 
-// restore goes back to the place in the file, and cuts what the output has after it. Without a place the output has to be
-// empty: nothing that is there is overwritten. The place is written at once, so that there is one as soon as there is an
-// answer.
+// restore returns to the place in the file, and cuts the output after it. Without a place the output must be empty, so that
+// nothing is overwritten. The place is written at once, so that it exists before any answer.
 func (r *Receiver) restore() error {
 	known := false
 	if r.options.Place != "" {
@@ -189,7 +188,7 @@ func (r *Receiver) restore() error {
 	return r.Save()
 }
 
-// restorePlace reads the place, if there is one, and says so.
+// restorePlace reads the place, and reports whether there is one.
 func (r *Receiver) restorePlace() (bool, error) {
 	p, err := readPlaces(r.options.Place, r.epochs[0].Partitions)
 	if err != nil || p == nil {
@@ -231,7 +230,7 @@ func (r *Receiver) cutOutput(known bool) error {
 	return nil
 }
 
-// Add takes the next message of a partition's stream in, and writes the answers that it adds.
+// Add takes a partition's next message, and writes its new answers.
 func (r *Receiver) Add(at bus.Partition, message bus.Message) error {
 	offset, partition := message.Offset, r.find(at)
 	if partition.over {
@@ -265,9 +264,8 @@ func (r *Receiver) Add(at bus.Partition, message bus.Message) error {
 	return r.writeAnswers(partition, message.Body, part)
 }
 
-// lookForCut finds answers that were cut before they were received: where offsets are missing and the next message is not the
-// one that is due. Missing offsets alone say nothing: the broker takes some for itself. It writes a line that says so, and goes
-// on after them.
+// lookForCut finds answers that were cut before they were received: offsets are missing, and the next message doesn't fit.
+// Missing offsets alone say nothing, as the broker uses some itself. It writes a line about the cut, and continues after it.
 func (r *Receiver) lookForCut(partition *received, part bus.Part) error {
 	chain, begin := &partition.chain, part.After
 	isCut := partition.hole && chain.Known && chain.Upto.Before(begin)
@@ -283,7 +281,7 @@ func (r *Receiver) lookForCut(partition *received, part bus.Part) error {
 	return r.writeLine(partition, text)
 }
 
-// lost takes in that a line says what is lost.
+// lost notes that a line says what is lost.
 func (r *Receiver) lost() {
 	r.gaps++
 	r.options.Gauges.lost()
@@ -304,7 +302,7 @@ func (r *Receiver) writeLine(partition *received, text []byte) error {
 	return nil
 }
 
-// writeRecord writes a line of a partition's answers, or hands it on.
+// writeRecord writes a line of a partition's answers, or passes it on.
 func (r *Receiver) writeRecord(partition *received, text []byte, record answer.Record) error {
 	if r.options.Each != nil {
 		return r.options.Each(text, record)

@@ -16,14 +16,14 @@ import (
 	"gateway/rabbit/logs"
 )
 
-// A file is a receiver that writes into a file and keeps its place, and what it told.
+// A file is a receiver that writes to a file and keeps its place, and its log.
 type file struct {
 	*Receiver
-	path string
-	told *bytes.Buffer
+	path   string
+	logged *bytes.Buffer
 }
 
-// opened is a receiver that was started with these files.
+// opened returns a receiver that was started with these files.
 func opened(t *testing.T, folder string) file {
 	t.Helper()
 	path := filepath.Join(folder, "answers")
@@ -32,31 +32,31 @@ func opened(t *testing.T, folder string) file {
 		t.Fatal(err)
 	}
 	t.Cleanup(func() { output.Close() })
-	told := &bytes.Buffer{}
+	logged := &bytes.Buffer{}
 	r, err := New(Options{Settings: bus.Settings{Partitions: 1}, From: bus.From{},
-		Place: filepath.Join(folder, "place"), Output: output, File: true, Log: logs.New(told, "test")})
+		Place: filepath.Join(folder, "place"), Output: output, File: true, Log: logs.New(logged, "test")})
 	if err != nil {
 		t.Fatal(err)
 	}
-	told.Reset() // it has said where it begins
-	return file{Receiver: r, path: path, told: told}
+	logged.Reset() // it has logged where it begins
+	return file{Receiver: r, path: path, logged: logged}
 }
 
-// messageOf is a message of the answers' stream.
+// messageOf returns a message of the answer stream.
 func messageOf(offset int64, part bus.Part, body []byte) bus.Message {
 	return bus.Message{Offset: offset, At: bus.Route{Exchange: bus.AnswersExchange, Key: "answers.0.of.1"},
 		Headers: bus.PartHeaders(part), Body: body}
 }
 
-// answers gives the receiver a message of the answers of so many lines behind this one, each a message of its own.
-func (f file) answers(t *testing.T, stream, behind, count int64) {
+// answers gives the receiver the answers to count lines after this one, each line in its own message.
+func (f file) answers(t *testing.T, stream, last, count int64) {
 	t.Helper()
-	part := bus.Part{After: ledger.Place{Offset: behind}, Upto: ledger.Place{Offset: behind + count}}
-	if behind < 0 {
+	part := bus.Part{After: ledger.Place{Offset: last}, Upto: ledger.Place{Offset: last + count}}
+	if last < 0 {
 		part.After = ledger.Start
 	}
 	var body []byte
-	for line := behind + 1; line <= behind+count; line++ {
+	for line := last + 1; line <= last+count; line++ {
 		body = answer.Append(body, ledger.Place{Offset: line}, []byte(`"k"`), []byte(fmt.Sprint(line)), []byte(`{"ticket":0}`))
 	}
 	if err := f.Add(first, messageOf(stream, part, body)); err != nil {
@@ -64,7 +64,7 @@ func (f file) answers(t *testing.T, stream, behind, count int64) {
 	}
 }
 
-// written are the numbers of the lines whose answers stand in the file.
+// written returns the numbers of the lines whose answers are in the file.
 func (f file) written(t *testing.T) string {
 	t.Helper()
 	text, err := os.ReadFile(f.path)
@@ -88,27 +88,27 @@ func (f file) saved(t *testing.T) {
 	}
 }
 
-// first is the partition of which the tests receive.
+// first is the partition that the tests receive from.
 var first = bus.Partition{Of: bus.Settings{Partitions: 1}}
 
-// Answers that are published twice, with a gap before them or over again by a second owner are written once.
+// Answers that are published twice, after a gap, or again by a second owner are written once.
 func TestEachAnswerIsWrittenOnce(t *testing.T) {
 	f := opened(t, t.TempDir())
 	f.answers(t, 0, -1, 3)                                       // 0 to 2
 	f.answers(t, 1, -1, 3)                                       // the same again
-	f.answers(t, 2, 5, 1)                                        // behind a gap
+	f.answers(t, 2, 5, 1)                                        // after a gap
 	f.answers(t, 3, 0, 4)                                        // 1 to 4
 	if err := f.Add(first, bus.Message{Offset: 4}); err != nil { // a mark
 		t.Fatal(err)
 	}
 	f.answers(t, 5, 4, 2) // 5 and 6
 	f.saved(t)
-	if got := f.written(t); got != "0 1 2 3 4 5 6" || f.told.Len() > 0 {
-		t.Errorf("%s; %s", got, f.told)
+	if got := f.written(t); got != "0 1 2 3 4 5 6" || f.logged.Len() > 0 {
+		t.Errorf("%s; %s", got, f.logged)
 	}
 }
 
-// A receiver that is killed, and started again, writes nothing twice and leaves nothing out.
+// A receiver that is killed and restarted writes nothing twice and misses nothing.
 func TestAPlaceIsGoneBackTo(t *testing.T) {
 	folder := t.TempDir()
 	f := opened(t, folder)
@@ -131,7 +131,7 @@ func TestAPlaceIsGoneBackTo(t *testing.T) {
 	}
 }
 
-// An output that nothing says how to go on with is left as it is.
+// An output without a place is kept as it is.
 func TestNothingIsOverwritten(t *testing.T) {
 	folder := t.TempDir()
 	f := opened(t, folder)
@@ -162,7 +162,7 @@ func TestNothingIsOverwritten(t *testing.T) {
 	}
 }
 
-// A receiver that is killed before its first answer goes on with its place.
+// A receiver that is killed before its first answer continues with its place.
 func TestAPlaceIsThereAtOnce(t *testing.T) {
 	folder := t.TempDir()
 	f := opened(t, folder)
@@ -178,22 +178,22 @@ func TestAPlaceIsThereAtOnce(t *testing.T) {
 	}
 }
 
-// What retention has cut before it was received is told, and the receiver goes on.
-func TestACutIsTold(t *testing.T) {
+// What retention cut before it was received is reported, and the receiver continues.
+func TestACutIsReported(t *testing.T) {
 	f := opened(t, t.TempDir())
 	f.answers(t, 0, -1, 3)
 	f.answers(t, 9, 20, 1)
 	f.saved(t)
 	lost := `{"partition":0,"lost":{"from":3,"to":20,"answers":true}}`
-	if got := f.written(t); got != "0 1 2 "+lost+" 21" || !strings.Contains(f.told.String(), "after line 2.0 and up to line 20.0") {
-		t.Errorf("%s; %s", got, f.told)
+	if got := f.written(t); got != "0 1 2 "+lost+" 21" || !strings.Contains(f.logged.String(), "after line 2.0 and up to line 20.0") {
+		t.Errorf("%s; %s", got, f.logged)
 	}
 	if f.gaps != 1 {
 		t.Errorf("%d gaps", f.gaps)
 	}
 }
 
-// Requests that are lost are a line of the answers' stream, which is written once.
+// Lost requests are a line of the answer stream, which is written once.
 func TestLostRequestsAreWritten(t *testing.T) {
 	f := opened(t, t.TempDir())
 	f.answers(t, 0, -1, 3)
@@ -211,8 +211,8 @@ func TestLostRequestsAreWritten(t *testing.T) {
 	}
 }
 
-// A cut is known of where a mark comes first behind it, and the receiver is started again.
-func TestACutBeforeAMarkIsTold(t *testing.T) {
+// A cut is noticed if a mark comes first after it, and after a restart of the receiver.
+func TestACutBeforeAMarkIsReported(t *testing.T) {
 	folder := t.TempDir()
 	f := opened(t, folder)
 	f.answers(t, 0, -1, 3)
@@ -224,11 +224,11 @@ func TestACutBeforeAMarkIsTold(t *testing.T) {
 	again.answers(t, 10, 20, 1)
 	again.saved(t)
 	if got := again.written(t); !strings.HasPrefix(got, "0 1 2 ") || !strings.HasSuffix(got, " 21") || again.gaps != 1 {
-		t.Errorf("%s; %s", got, again.told)
+		t.Errorf("%s; %s", got, again.logged)
 	}
 }
 
-// Offsets that the broker takes for itself are no cut, and answers that come once more behind them are not written.
+// Offsets that the broker uses itself are no cut, and answers repeated after them are not written.
 func TestMissingOffsetsAreNoCut(t *testing.T) {
 	f := opened(t, t.TempDir())
 	f.answers(t, 0, -1, 3)
@@ -236,27 +236,27 @@ func TestMissingOffsetsAreNoCut(t *testing.T) {
 	f.answers(t, 4, 0, 3)
 	f.answers(t, 6, 3, 1)
 	f.saved(t)
-	if got := f.written(t); got != "0 1 2 3 4" || f.told.Len() > 0 {
-		t.Errorf("%s; %s", got, f.told)
+	if got := f.written(t); got != "0 1 2 3 4" || f.logged.Len() > 0 {
+		t.Errorf("%s; %s", got, f.logged)
 	}
 }
 
-// A receiver logs where it begins, and that it goes on at a place.
+// A receiver logs where it begins, and that it continues at a place.
 func TestWhereItBeginsIsLogged(t *testing.T) {
 	folder := t.TempDir()
 	for from, due := range map[bus.From]string{{}: "begins at the first message that is left", {Place: bus.Next}: "begins at what comes from now on",
 		bus.FromOffset(1000): "begins at offset 1000, or the first one after it that is left"} {
-		var told bytes.Buffer
-		if _, err := New(Options{Settings: bus.Settings{Partitions: 1}, From: from, Log: logs.New(&told, "test")}); err != nil || !strings.HasSuffix(told.String(), due+"\n") {
-			t.Errorf("%v, %s", err, &told)
+		var logged bytes.Buffer
+		if _, err := New(Options{Settings: bus.Settings{Partitions: 1}, From: from, Log: logs.New(&logged, "test")}); err != nil || !strings.HasSuffix(logged.String(), due+"\n") {
+			t.Errorf("%v, %s", err, &logged)
 		}
 	}
 	opened(t, folder).saved(t)
 	options := opened(t, folder).options
-	var told bytes.Buffer
-	options.Log = logs.New(&told, "test")
-	if _, err := New(options); err != nil || !strings.Contains(told.String(), "goes on at the place in "+options.Place) {
-		t.Errorf("%v, %s", err, &told)
+	var logged bytes.Buffer
+	options.Log = logs.New(&logged, "test")
+	if _, err := New(options); err != nil || !strings.Contains(logged.String(), "goes on at the place in "+options.Place) {
+		t.Errorf("%v, %s", err, &logged)
 	}
 }
 
@@ -273,7 +273,7 @@ func TestAPlaceOfOtherPartitions(t *testing.T) {
 	}
 }
 
-// Time without an answer counts once each partition was reached, or could not be.
+// Time without an answer counts once each partition was reached, or failed.
 func TestIdleTimeBeginsWithThePartitions(t *testing.T) {
 	f := opened(t, t.TempDir())
 	f.options.Idle = time.Nanosecond

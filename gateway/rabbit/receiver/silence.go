@@ -7,17 +7,17 @@ import (
 	"gateway/rabbit/bus"
 )
 
-// errSilent says that another broker is to be tried.
+// errSilent means that another broker is to be tried.
 var errSilent = errors.New("the broker may have further messages, and sends none")
 
-// A silence is that of a reader which gets no message. Where the copy of a stream hangs at a broker, as when retention has cut what it
-// was about to copy, its readers get nothing more, and no error. So the end of the stream, which its leader knows, is asked for where
-// no message came for a while.
+// A silence is that of a reader without messages. If a stream's copy hangs at a broker, for example because retention cut what
+// it was about to copy, its readers get no more messages, and no error. So if no message came for a while, the stream's end is
+// requested, which its leader knows.
 type silence struct {
 	link   bus.Link
 	stream string
 	last   int64 // the offset of the last message at the last look
-	asked  bool  // whether an answer is still to come
+	asked  bool  // whether an answer is still due
 	ends   chan int64
 	end    bus.End
 }
@@ -26,7 +26,7 @@ func newSilence(link bus.Link, stream string) *silence {
 	return &silence{link: link, stream: stream, last: -1, ends: make(chan int64, 1)}
 }
 
-// look asks for the end if this was the last message at the last look, too. The broker may be slow, so the answer comes in ends.
+// look requests the end if this was the last message at the last look too. The broker may be slow, so the answer comes in ends.
 func (s *silence) look(last int64) {
 	if last != s.last || s.asked {
 		s.last = last
@@ -36,7 +36,7 @@ func (s *silence) look(last int64) {
 	go func() { s.ends <- s.offset() }()
 }
 
-// offset is that of the stream's last message, or -1 where it isn't known.
+// offset returns the offset of the stream's last message, or -1 if unknown.
 func (s *silence) offset() int64 {
 	if s.end == nil {
 		end, err := s.link.End(s.stream)
@@ -53,7 +53,7 @@ func (s *silence) offset() int64 {
 	return offset
 }
 
-// pauseOf is how often a silence is looked at.
+// pauseOf returns how often to check for silence.
 func pauseOf(options Options) time.Duration {
 	if pause := options.Idle / 3; pause > 0 && pause < bus.Patience {
 		return pause
@@ -61,8 +61,9 @@ func pauseOf(options Options) time.Duration {
 	return bus.Patience
 }
 
-// leave leaves the broker where the stream has further messages, and this reader was silent up to now. The end may be taken too high,
-// so this is done once for each end. What is read from now on, and from which nothing came yet, would be missed.
+// leave leaves the broker if the stream has more messages and this reader was silent. The end may be too high, so this is done
+// once for each end. A stream that is read from now on, and from which nothing came yet, isn't left, as messages would be
+// missed.
 func (r *Reader) leave(link bus.Link, s *silence, end int64) error {
 	s.asked = false
 	if end <= r.last || end == r.end || s.last != r.last || r.last < 0 && r.begin.Place == bus.Next {

@@ -12,17 +12,17 @@ import (
 	"gateway/rabbit/logs"
 )
 
-// A stuckBus has one stream, whose copy hangs at the first broker: its reader gets nothing more.
+// A stuckBus has one stream, whose copy hangs at the first broker: its reader gets no more messages.
 type stuckBus struct {
 	bus.Bus
 	bus.Link
 	first, other []int64 // the offsets of the messages that the first reader gets, and of those at another broker
 	end          int64
-	asked        chan struct{} // lets the end be asked for once, or, closed, always
+	asked        chan struct{} // lets the end be requested once, or always if closed
 	done         <-chan struct{}
 	mutex        sync.Mutex
 	from         []bus.From // where the readers began
-	left         []string   // the brokers that were to be tried last
+	left         []string   // the brokers to try last
 }
 
 func (b *stuckBus) Connect(_ context.Context, _, left string) (bus.Link, error) {
@@ -84,7 +84,7 @@ func (r stuckReader) Ended() error                 { return errors.New("it has e
 func (r stuckReader) Next() (bus.Message, error)   { return <-r, nil }
 func (r stuckReader) Close() error                 { return nil }
 
-// reading runs a reader of that bus, which begins there, and gives what it hands on. It ends with the test.
+// reading runs a reader of that bus, which begins there, and returns what it passes on. It ends with the test.
 func reading(t *testing.T, b *stuckBus, from bus.From, last int64) <-chan message {
 	messages := make(chan message)
 	r := &Reader{options: Options{Bus: b, Gauges: NewGauges(), Log: logs.New(io.Discard, "test")},
@@ -103,7 +103,7 @@ func reading(t *testing.T, b *stuckBus, from bus.From, last int64) <-chan messag
 	return messages
 }
 
-// Where a broker sends nothing more, though there are further messages, another one is tried, and each message comes.
+// If a broker sends nothing more though there are messages, another one is tried, and each message comes.
 func TestAReaderLeavesABrokerThatIsSilent(t *testing.T) {
 	b := &stuckBus{first: []int64{0, 1, 2}, other: []int64{2, 3, 9}, end: 9, asked: make(chan struct{})}
 	close(b.asked)
@@ -118,7 +118,8 @@ func TestAReaderLeavesABrokerThatIsSilent(t *testing.T) {
 	}
 }
 
-// Where the end is taken too high, another broker is tried once, and where it isn't further, or nothing was read of what is to come, never.
+// If the end is too high, another broker is tried once. If it isn't higher, or nothing was read of a stream read from now on,
+// none is.
 func TestAReaderThatIsIdleStays(t *testing.T) {
 	for name, it := range map[string]struct {
 		end, last int64

@@ -1,5 +1,5 @@
-// Package rescale changes the number of partitions. Each step may be done again, by anybody: the stream that says how many partitions
-// there are decides which change counts, and of several closes of a log the first one.
+// Package rescale changes the number of partitions. Each step may be repeated, by anybody: the scale stream decides which
+// change counts, and of several closings of a log the first one does.
 package rescale
 
 import (
@@ -11,26 +11,26 @@ import (
 	"gateway/rabbit/logs"
 )
 
-// ErrUndeclared says that the brokers don't know how many partitions there are.
+// ErrUndeclared means that the brokers don't have the number of partitions.
 var ErrUndeclared = errors.New("the brokers don't know how many partitions there are: run desk partition --declare first, with " +
 	bus.PartitionsVariable + " as it is")
 
-// An Other error says that another change is under way.
+// An Other error means that another change is running.
 type Other struct{ To bus.Settings }
 
 func (o *Other) Error() string {
 	return fmt.Sprintf("a change to %d partitions is under way: desk partition rescale %d goes on with it", o.To.Partitions, o.To.Partitions)
 }
 
-// A Change is one to another number of partitions.
+// A Change is a change to another number of partitions.
 type Change struct {
 	From, To bus.Settings
-	Done     bool // whether nothing is to be done
+	Done     bool // whether there is nothing to do
 	link     bus.Link
 	appender bus.Appender
 }
 
-// Begin begins a change, or finds the one to this number of partitions that is under way.
+// Begin begins a change, or finds the running one to this number of partitions.
 func Begin(link bus.Link, to int) (*Change, error) {
 	scale, err := bus.LookAtScale(link, bus.Scaling{})
 	if err != nil {
@@ -75,15 +75,16 @@ func (c *Change) append(to bus.Route, headers bus.Headers) error {
 	return c.appender.Settle()
 }
 
-// Close closes the log of a partition of before. Those of after are declared by then.
+// Close closes an old partition's log. The new partitions are declared by then.
 func (c *Change) Close(partition int) error {
 	return c.append(c.From.Route(bus.RequestsExchange, bus.TopicMarks, partition), bus.CloseHeaders(c.To))
 }
 
-// End says that each log is closed.
+// End records that each log is closed.
 func (c *Change) End() error { return c.append(bus.ScaleRoute, bus.DoneHeaders(c.To.Epoch)) }
 
-// Declare says how many partitions there are where nothing says it, once their streams are declared. It gives the number that counts.
+// Declare records the number of partitions if there is none, once their streams are declared. It returns the number that
+// counts.
 func Declare(ctx context.Context, options Options, settings bus.Settings) (newest bus.Settings, err error) {
 	err = bus.Again(ctx, options.Bus, options.Log, func(ctx context.Context) error {
 		var is bool
@@ -101,7 +102,7 @@ func Declare(ctx context.Context, options Options, settings bus.Settings) (newes
 	return newest, err
 }
 
-// known is how many partitions there are, if something says it.
+// known returns the number of partitions, if it is recorded.
 func known(ctx context.Context, on bus.Bus) (newest bus.Settings, is bool, err error) {
 	link, err := on.Connect(ctx, "desk partition --declare", "")
 	if err != nil {
@@ -119,7 +120,7 @@ func known(ctx context.Context, on bus.Bus) (newest bus.Settings, is bool, err e
 	return newest, is, nil
 }
 
-// say says how many partitions there are. Where somebody has said it before, that counts.
+// say records the number of partitions. An earlier record counts instead.
 func say(ctx context.Context, on bus.Bus, settings bus.Settings) error {
 	link, err := on.Connect(ctx, "desk partition --declare", "")
 	if err != nil {
@@ -133,16 +134,16 @@ func say(ctx context.Context, on bus.Bus, settings bus.Settings) error {
 	return c.append(bus.ScaleRoute, bus.DeclaredHeaders(settings.Partitions))
 }
 
-// Options say what is changed.
+// Options says what is changed.
 type Options struct {
 	Bus     bus.Bus
 	To      int
-	Declare func(context.Context, bus.Settings) error // makes the streams of partitions where they aren't there
-	Leave   func(context.Context, bus.Settings) error // leads no more lines to logs that are closed
+	Declare func(context.Context, bus.Settings) error // makes the missing streams of partitions
+	Leave   func(context.Context, bus.Settings) error // unbinds closed logs
 	Log     *logs.Log
 }
 
-// Run changes the number of partitions, and gives the change.
+// Run changes the number of partitions, and returns the change.
 func Run(ctx context.Context, options Options) (change *Change, err error) {
 	err = bus.Again(ctx, options.Bus, options.Log, func(ctx context.Context) error {
 		link, err := options.Bus.Connect(ctx, "desk partition rescale", "")
@@ -162,7 +163,7 @@ func Run(ctx context.Context, options Options) (change *Change, err error) {
 	return change, err
 }
 
-// run does what comes after the begin.
+// run does what follows Begin.
 func (c *Change) run(ctx context.Context, options Options) error {
 	options.Log.Info("%d partitions become %d (epoch %d)", c.From.Partitions, c.To.Partitions, c.To.Epoch)
 	if err := options.Declare(ctx, c.To); err != nil {

@@ -7,23 +7,23 @@ import (
 	"gateway/rabbit/ledger"
 )
 
-// A known batch is what a partition took of it in earlier runs. The input begins with those lines, and they are not sent
-// again. The zero value is that of a batch of which nothing is known.
+// A known is what a partition took of a batch in earlier runs. The input begins with those lines, and they are not sent again.
+// The zero value is an unknown batch.
 type known struct {
 	batch  *ledger.Batch
 	count  int64 // lines of the input so far
 	digest ledger.Digest
 }
 
-// errOther says that an id was given to another input.
+// errOther means that an id was used for another input.
 var errOther = errors.New("it was sent with other lines: each batch needs an id of its own")
 
-// errLost says that lines of an earlier run were confirmed, and are lost all the same.
+// errLost means that lines of an earlier run were confirmed, and are lost nevertheless.
 func errLost(lines int64) error {
 	return fmt.Errorf("the broker has lost %d of its lines: send it again as another batch", lines)
 }
 
-// take takes the partition's next line of the input in, and says whether it was taken before.
+// take takes the input's next line for the partition, and reports whether it was taken before.
 func (k *known) take(text []byte) (repeated bool, err error) {
 	if k.batch == nil {
 		return false, nil
@@ -45,7 +45,7 @@ func (k *known) take(text []byte) (repeated bool, err error) {
 	return true, nil
 }
 
-// end takes in that the input has ended.
+// end notes that the input has ended.
 func (k *known) end() error {
 	if k.batch != nil && k.count < k.batch.Count {
 		return errOther

@@ -8,7 +8,7 @@ import (
 	"gateway/rabbit/ledger"
 )
 
-// batchOf is what a partition knows of a batch with these lines.
+// batchOf returns what a partition knows of a batch with these lines.
 func batchOf(ended bool, lines ...string) *ledger.Batch {
 	senders := ledger.New(0).Senders
 	from := ledger.Origin{Kind: ledger.Lines, Sender: "a", Named: true, Batch: "x"}
@@ -61,7 +61,7 @@ func TestRepeats(t *testing.T) {
 	}
 }
 
-// A batch of which nothing is known is new, however long it is.
+// An unknown batch is new, however long it is.
 func TestANewBatch(t *testing.T) {
 	var k known
 	for number := 0; number < 100; number++ {
@@ -74,7 +74,7 @@ func TestANewBatch(t *testing.T) {
 	}
 }
 
-// A batch of which the broker has lost lines can't be sent again under its id: which of them are lost isn't known.
+// A batch that lost lines at the broker can't be sent again under its id, as it isn't known which.
 func TestABatchWithLostLines(t *testing.T) {
 	batch := batchOf(false, "m", "a")
 	batch.Missing = 3

@@ -11,8 +11,8 @@ import (
 	"gateway/rabbit/ledger"
 )
 
-// A fencedCount counts the lines of this process that partitions took before a newer one claimed its name. A model, which
-// goes to every partition, counts once.
+// A fencedCount counts the lines of this process that partitions took before a newer one claimed its name. A model, which goes
+// to every partition, counts once.
 type fencedCount struct {
 	mutex    sync.Mutex
 	requests int64
@@ -28,7 +28,7 @@ func (c *fencedCount) add(requests, models int64) {
 	}
 }
 
-// takenBefore counts the lines of this process that were taken, over all partitions.
+// takenBefore counts this process's lines that were taken, over all partitions.
 func (s *Sender) takenBefore(ctx context.Context, newer *bus.Superseded) (int64, error) {
 	var taken int64
 	err := bus.Again(ctx, s.options.Bus, s.options.Log, func(ctx context.Context) error {
@@ -46,7 +46,7 @@ func (s *Sender) takenBefore(ctx context.Context, newer *bus.Superseded) (int64,
 	return taken, nil
 }
 
-// takenOver counts the lines of this process that were taken, with one connection.
+// takenOver counts this process's lines that were taken, with one connection.
 func (s *Sender) takenOver(link bus.Link, newer *bus.Superseded) (int64, error) {
 	var count fencedCount
 	err := eachPartition(len(s.lanes), s.options.AtOnce, func(partition int) error {
@@ -63,10 +63,10 @@ func (s *Sender) takenOver(link bus.Link, newer *bus.Superseded) (int64, error) 
 	return count.requests + count.models, err
 }
 
-// A takenLines counts the lines of a process that a partition took.
-type takenLines struct{ requests, models, upto int64 } // upto counts those of earlier processes, too
+// A takenLines counts a process's lines that a partition took.
+type takenLines struct{ requests, models, upto int64 } // upto includes those of earlier processes
 
-// takenIn reads a partition's log from this process's claim on, up to the claim of a newer one or where the log is closed.
+// takenIn reads a partition's log from this process's claim to that of a newer one, or to the log's closing.
 func (s *Sender) takenIn(link bus.Link, l *Lane) (takenLines, error) {
 	found := takenLines{upto: l.before}
 	stream, err := link.Read(bus.Reading{Stream: l.queue, From: bus.FromOffset(l.claim), Window: open})
@@ -98,8 +98,8 @@ func (s *Sender) takenIn(link bus.Link, l *Lane) (takenLines, error) {
 	}
 }
 
-// fence claims the name in a partition's log for the newer process, which may not have done so yet. So a message of this one that comes
-// late, as the connection was lost while it was on its way, doesn't count. Nothing is led any more to a log that is closed, and needs none.
+// fence claims the name in a partition's log for the newer process, which may not have done so yet. Then a late message of this
+// one, in flight when the connection was lost, doesn't count. A closed log gets no more messages, and needs no claim.
 func (s *Sender) fence(link bus.Link, partition int, epoch int64) error {
 	publisher, err := link.Appender()
 	if err != nil {
@@ -116,7 +116,7 @@ func (s *Sender) fence(link bus.Link, partition int, epoch int64) error {
 	return nil
 }
 
-// takenOf are the lines of a message that the partition takes, if it waits for the line with this number.
+// takenOf returns the lines of a message that the partition takes if it expects the line with this number.
 func takenOf(message bus.Message, from ledger.Origin, next int64) [][]byte {
 	lines := bytes.Split(message.Body, []byte("\n"))
 	skipped := next - from.Number

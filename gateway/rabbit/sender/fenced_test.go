@@ -8,7 +8,7 @@ import (
 	"gateway/rabbit/ledger"
 )
 
-// Of a message the lines count that the partition takes: none before the line that it waits for, and none if that is missing.
+// The lines of a message count that the partition takes: none before the expected line, and none if that is missing.
 func TestWhatIsTakenOfAMessage(t *testing.T) {
 	message := bus.Message{Body: []byte("a\nb\nc")}
 	for next, want := range map[int64]string{4: "[]", 5: "[a b c]", 6: "[b c]", 7: "[c]", 8: "[]"} {

@@ -7,8 +7,7 @@ import (
 	"gateway/rabbit/bus"
 )
 
-// Lines wait for others while the message before them is fresh. A full message, the end of the input and a pause before the line
-// end that.
+// Lines wait for others while the last message is recent. A full message, the end of the input and an earlier pause end that.
 func TestLinesWaitForOthers(t *testing.T) {
 	l := newLane(New(Options{Settings: bus.Settings{Partitions: 1}}), 0)
 	waits := func(due bool, when string) {
@@ -33,11 +32,11 @@ func TestLinesWaitForOthers(t *testing.T) {
 	waits(false, "no more lines come")
 }
 
-// Where waits are in vain, one after the other, lines don't wait, but for one now and then; once one isn't, they do.
+// After several vain waits in a row lines don't wait, except one now and then; once one isn't vain, they do.
 func TestLinesDoNotWaitInVain(t *testing.T) {
 	var g gathering
 	last := time.Unix(1_700_000_000, 0)
-	// A line comes right after the message before, and another after some of the time that it waits.
+	// A line comes right after the last message, and another after part of its wait.
 	send := func(another time.Duration) (waited bool) {
 		first := last.Add(time.Millisecond)
 		rest := g.rest(first, last)

@@ -7,19 +7,19 @@ import (
 )
 
 const (
-	inVain   = 2  // after so many waits in vain, one after the other, lines don't wait
-	tryAfter = 16 // after so many messages since then it is tried whether waiting is in vain still
+	inVain   = 2  // after this many vain waits in a row, lines don't wait
+	tryAfter = 16 // after this many messages since then waiting is tried again
 )
 
-// A gathering decides how long lines wait for further ones after the message before. A wait is in vain where no line comes in its last
-// half, as where each request waits for the answer to the one before: then waiting costs time and saves nothing.
+// A gathering decides how long lines wait for more after the last message. A wait is vain if no line comes in its last half, as
+// when each request waits for the previous answer: then waiting costs time and saves nothing.
 type gathering struct {
-	begun time.Time // when the lines that are there began to wait, or zero
-	vain  int       // how many waits were in vain, one after the other
-	since int       // how many messages went since the last wait
+	begun time.Time // when the present lines began to wait, or zero
+	vain  int       // how many vain waits there were in a row
+	since int       // how many messages were sent since the last wait
 }
 
-// rest is how long lines still wait at a time, where the message before went at another.
+// rest returns how much longer lines wait at now, if the last message was sent at last.
 func (g *gathering) rest(now, last time.Time) time.Duration {
 	rest := bus.LineGather - now.Sub(last)
 	if rest <= 0 || g.vain >= inVain && g.since < tryAfter {
@@ -31,7 +31,7 @@ func (g *gathering) rest(now, last time.Time) time.Duration {
 	return rest
 }
 
-// sent takes in that a message goes at a time, whose last line came at another.
+// sent notes that a message is sent at now, whose last line came at came.
 func (g *gathering) sent(now, came time.Time) {
 	switch {
 	case g.begun.IsZero():

@@ -11,7 +11,7 @@ import (
 	"gateway/rabbit/line"
 )
 
-// An inputLine is a line of the input, without its line end.
+// An inputLine is a line of the input, without its newline.
 type inputLine struct {
 	text    []byte
 	tooLong bool // it was not kept
@@ -20,10 +20,10 @@ type inputLine struct {
 // A batch has lines that were at hand together.
 type batch struct {
 	lines []inputLine
-	err   error // why no more lines come, io.EOF at the end
+	err   error // why no more lines come; io.EOF at the end
 }
 
-// readInput reads the input in batches, each of what is at hand.
+// readInput reads the input in batches of what is at hand.
 func readInput(ctx context.Context, input io.Reader) <-chan batch {
 	batches := make(chan batch, 2)
 	go func() {
@@ -60,7 +60,7 @@ func readBatch(reader *bufio.Reader) batch {
 	}
 }
 
-// readLine reads a line. Of one that is too long nothing is kept.
+// readLine reads a line. Nothing is kept of one that is too long.
 func readLine(reader *bufio.Reader) (inputLine, error) {
 	var next inputLine
 	for {

@@ -13,17 +13,17 @@ import (
 // atOnce is how many partitions are asked at a time.
 const atOnce = 8
 
-// open is how many messages of each of them may be on their way.
+// open is how many messages of each are in flight.
 var open = bus.OpenOf(atOnce)
 
-// A claimed partition has the claim of this process in its log.
+// A claimed is a partition with this process's claim in its log.
 type claimed struct {
 	offset int64         // of the claim
-	batch  *ledger.Batch // what the partition has of the batch, nil where it has none
-	fenced bool          // whether a newer process had claimed the name here before
+	batch  *ledger.Batch // what the partition has of the batch, or nil
+	fenced bool          // whether a newer process claimed the name here before
 }
 
-// eachPartition does the work for every partition, so many of them at a time.
+// eachPartition does the work for every partition, atOnce at a time.
 func eachPartition(partitions, atOnce int, work func(partition int) error) error {
 	faults := make([]error, partitions)
 	var asked sync.WaitGroup
@@ -46,8 +46,8 @@ func eachPartition(partitions, atOnce int, work func(partition int) error) error
 	return nil
 }
 
-// claimPartition claims the name in a partition's log, and finds out what the partition took of the batch: no line of an
-// older process counts after the claim.
+// claimPartition claims the name in a partition's log, and finds out what the partition took of the batch: no line of an older
+// process counts after the claim.
 func claimPartition(link bus.Link, settings bus.Settings, partition int, as ledger.Origin) (claimed, error) {
 	publisher, err := link.Appender()
 	if err != nil {
@@ -83,10 +83,10 @@ func claimPartition(link bus.Link, settings bus.Settings, partition int, as ledg
 	return found, publisher.Close()
 }
 
-// errUnbegun says that a partition of a later number of partitions doesn't know yet what was sent before.
+// errUnbegun means that a later partition doesn't know yet what was sent before.
 var errUnbegun = errors.New("it has not begun: partitions from which its keys come are not answered up to the change")
 
-// takesLines says why a partition takes no lines now.
+// takesLines returns why a partition takes no lines now.
 func takesLines(h *bus.History, settings bus.Settings) error {
 	switch {
 	case h.Closed != (bus.Settings{}):
@@ -97,12 +97,12 @@ func takesLines(h *bus.History, settings bus.Settings) error {
 	return nil
 }
 
-// linesRoute is where requests, claims and ends of batches are published.
+// linesRoute returns the route of requests, claims and ends of batches.
 func linesRoute(settings bus.Settings, partition int) bus.Route {
 	return settings.Route(bus.RequestsExchange, bus.TopicLines, partition)
 }
 
-// readOn takes the lines after the ledger's place in, up to the claim with the token, and gives the claim's offset.
+// readOn takes the lines after the ledger's place, up to the claim with the token, and returns the claim's offset.
 func readOn(link bus.Link, at bus.Partition, token string, l *ledger.Ledger) (int64, error) {
 	stream, err := readLog(link, at.Queue(bus.Lines), l)
 	if err != nil {
@@ -132,7 +132,7 @@ func readLog(link bus.Link, lines string, l *ledger.Ledger) (bus.Reader, error) 
 	return link.Read(bus.Reading{Stream: lines, From: from, Window: open})
 }
 
-// isModel says whether a line is a model.
+// isModel reports whether a line is a model.
 func isModel(raw []byte) bool {
 	read, err := line.Look(raw)
 	return err == nil && read.IsModel()

@@ -11,8 +11,8 @@ import (
 	"gateway/rabbit/ledger"
 )
 
-// A Lane sends the lines of one partition. One message is on its way at a time: with several, one could be lost and the
-// next one kept where a stream changes its leader.
+// A Lane sends the lines of one partition. One message is in flight at a time: with several, one could be lost and the next
+// kept when a stream changes its leader.
 type Lane struct {
 	sender    *Sender
 	partition int
@@ -21,14 +21,14 @@ type Lane struct {
 	room      chan struct{} // has a value where there may be room
 	wake      chan struct{} // has a value where there may be something to send
 
-	// What the lane's own goroutine knows.
+	// What only the lane's own goroutine uses.
 	claimed  bool
 	claim    int64 // the offset of this process's claim in the log
-	fenced   bool  // whether a newer process had claimed the name before: no line counts
+	fenced   bool  // whether a newer process claimed the name before: no line counts
 	before   int64 // how many lines of the batch were taken before
 	known    known
 	next     int64     // the number of the next message's first line
-	last     time.Time // when a message was published last
+	last     time.Time // when a message was last published
 	waiting  gathering
 	models   int64 // how many lines of the batch so far are models
 	message  *message
@@ -38,9 +38,9 @@ type Lane struct {
 	mutex    sync.Mutex
 	pending  []pending
 	came     time.Time // when the last of these came
-	bytes    int       // of what is pending or on its way
-	closed   bool      // whether no further line comes
-	settled  bool      // whether all are confirmed then
+	bytes    int       // of pending lines and those in flight
+	closed   bool      // whether no more lines come
+	settled  bool      // and whether all are confirmed then
 	ready    bool      // whether the name is claimed
 	done     bool
 	passed   bool      // whether lines were left out: no later one is sent
@@ -74,7 +74,7 @@ func signal(to chan struct{}) {
 	}
 }
 
-// put takes a line in, unless there is no room.
+// put takes a line, unless there is no room.
 func (l *Lane) put(next pending) bool {
 	l.mutex.Lock()
 	defer l.mutex.Unlock()
@@ -89,13 +89,13 @@ func (l *Lane) put(next pending) bool {
 	}
 	l.pending, l.came = append(l.pending, next), time.Now()
 	l.bytes += len(next.text)
-	if l.message == nil && (len(l.pending) == 1 || l.isFull()) { // what comes between waits for a message with them
+	if l.message == nil && (len(l.pending) == 1 || l.isFull()) { // lines in between wait for a message with them
 		signal(l.wake)
 	}
 	return true
 }
 
-// close takes in that no further line comes.
+// close notes that no more lines come.
 func (l *Lane) close() {
 	l.mutex.Lock()
 	l.closed = true
@@ -103,7 +103,7 @@ func (l *Lane) close() {
 	signal(l.wake)
 }
 
-// passBy leaves out the lines that come from now on.
+// passBy leaves out the lines from now on.
 func (l *Lane) passBy() {
 	l.mutex.Lock()
 	l.passed = true
@@ -112,21 +112,21 @@ func (l *Lane) passBy() {
 	l.sender.options.Log.OfPartition(l.partition).Error("it can't be reached, and its further lines are not sent: %v", reason)
 }
 
-// isStuck says whether nothing was confirmed for so long, though something is due.
+// isStuck reports whether nothing was confirmed for this long though something is due.
 func (l *Lane) isStuck(long time.Duration) bool {
 	l.mutex.Lock()
 	defer l.mutex.Unlock()
 	return !l.done && !l.stuck.IsZero() && time.Since(l.stuck) >= long
 }
 
-// IsSettled says whether no further line comes, and all are confirmed.
+// IsSettled reports whether no more lines come, and all are confirmed.
 func (l *Lane) IsSettled() bool {
 	l.mutex.Lock()
 	defer l.mutex.Unlock()
 	return l.settled || l.done
 }
 
-// settle takes in that no further line comes, and all are confirmed.
+// settle notes that no more lines come, and all are confirmed.
 func (l *Lane) settle() {
 	l.mutex.Lock()
 	l.settled = true
@@ -134,7 +134,7 @@ func (l *Lane) settle() {
 	l.sender.notice()
 }
 
-// IsClaimed says whether the name is claimed in the partition, so that it is known what that took of the batch.
+// IsClaimed reports whether the name is claimed in the partition, so that what it took of the batch is known.
 func (l *Lane) IsClaimed() bool {
 	l.mutex.Lock()
 	defer l.mutex.Unlock()
@@ -153,7 +153,7 @@ func (l *Lane) isDone() bool {
 	return l.done
 }
 
-// tally counts the lines, and says why some were not sent.
+// tally counts the lines, and returns why some were not sent.
 func (l *Lane) tally() (sent, repeated, unsent int64, reason error) {
 	l.mutex.Lock()
 	defer l.mutex.Unlock()
@@ -167,7 +167,7 @@ func (l *Lane) tally() (sent, repeated, unsent int64, reason error) {
 	return l.sent, l.repeated, unsent + int64(len(l.pending)), l.reason
 }
 
-// failed takes in that the connection has failed.
+// failed notes that the connection has failed.
 func (l *Lane) failed(reason error) {
 	l.mutex.Lock()
 	if l.stuck.IsZero() {
@@ -179,7 +179,7 @@ func (l *Lane) failed(reason error) {
 	l.sender.notice()
 }
 
-// reached takes in that there is a connection. Where nothing waits for a confirm, the lane is not stuck.
+// reached notes that there is a connection. If nothing waits for a confirm, the lane is not stuck.
 func (l *Lane) reached() {
 	l.mutex.Lock()
 	defer l.mutex.Unlock()
@@ -188,7 +188,7 @@ func (l *Lane) reached() {
 	}
 }
 
-// goesOn takes in that the partition is reached, and confirms what it is sent.
+// goesOn notes that the partition is reached, and confirms.
 func (l *Lane) goesOn() {
 	l.stuck = time.Time{}
 	l.sender.options.Gauges.Failed(l.partition, nil)
@@ -199,7 +199,7 @@ func (l *Lane) work(ctx context.Context) {
 	log := l.sender.options.Log.OfPartition(l.partition)
 	err := bus.Again(ctx, l.sender.options.Bus, log, func(ctx context.Context) error {
 		err := l.run(ctx)
-		if err != nil && ctx.Err() == nil { // at the end all connections are lost, which is no reason why lines were not sent
+		if err != nil && ctx.Err() == nil { // at the end all connections are lost, which is no reason for unsent lines
 			l.failed(err)
 		}
 		return err
@@ -226,7 +226,7 @@ func (l *Lane) run(ctx context.Context) error {
 	}
 }
 
-// Open connects, claims the name in the partition, and publishes again what is without a confirm.
+// Open connects, claims the name in the partition, and publishes unconfirmed messages again.
 func (l *Lane) Open(ctx context.Context) (err error) {
 	if l.link, err = l.sender.connect(ctx); err != nil {
 		return err
@@ -253,8 +253,7 @@ func (l *Lane) begin() (err error) {
 	return nil
 }
 
-// isNeeded waits until there is something to do: a sender without a name of its own connects to a partition with its
-// first line.
+// isNeeded waits until there is something to do: a sender without a name connects to a partition for its first line.
 func (l *Lane) isNeeded(ctx context.Context) bool {
 	for !l.sender.options.Named {
 		l.mutex.Lock()
@@ -296,7 +295,7 @@ func (l *Lane) claimBatch(link bus.Link) error {
 	return nil
 }
 
-// Step publishes the next message, if none is on its way, or ends the batch. It says whether there is more to wait for.
+// Step publishes the next message, if none is in flight, or ends the batch. It reports whether there is more to wait for.
 func (l *Lane) Step() (more bool, err error) {
 	if l.message != nil || l.gathers() > 0 {
 		return true, nil
@@ -321,12 +320,12 @@ func (l *Lane) Step() (more bool, err error) {
 	return true, l.append()
 }
 
-// isFull says whether the lines that wait fill a message.
+// isFull reports whether the waiting lines fill a message.
 func (l *Lane) isFull() bool {
 	return len(l.pending) >= bus.MessageLines || l.bytes >= bus.MessageBytes
 }
 
-// gathers is how long the lines that wait for a message wait for further ones.
+// gathers returns how much longer waiting lines wait for more.
 func (l *Lane) gathers() time.Duration {
 	l.mutex.Lock()
 	defer l.mutex.Unlock()
@@ -336,7 +335,7 @@ func (l *Lane) gathers() time.Duration {
 	return l.waiting.rest(time.Now(), l.last)
 }
 
-// nextMessage makes the next message, or nil if there is nothing to send, and says whether no more lines come.
+// nextMessage makes the next message, or returns nil if there is nothing to send, and reports whether no more lines come.
 func (l *Lane) nextMessage() (next *message, closed bool, err error) {
 	lines, closed, err := l.take()
 	if err != nil || len(lines) == 0 {
@@ -359,7 +358,7 @@ func (l *Lane) nextMessage() (next *message, closed bool, err error) {
 	return next, closed, nil
 }
 
-// bodyOf is the body of a message with these lines.
+// bodyOf returns a message body with these lines.
 func bodyOf(lines []pending) []byte {
 	size := len(lines) - 1
 	for _, one := range lines {
@@ -372,8 +371,8 @@ func bodyOf(lines []pending) []byte {
 	return body
 }
 
-// take takes the lines of the next message, and says whether no more come. Those that the partition has are left out. Models
-// and requests have messages of their own, since other rights are needed to send models.
+// take removes the lines of the next message, and reports whether no more come. Lines that the partition has are left out.
+// Models and requests have separate messages, as models need other permissions.
 func (l *Lane) take() (lines []pending, closed bool, err error) {
 	l.mutex.Lock()
 	defer l.mutex.Unlock()
@@ -411,7 +410,7 @@ func (l *Lane) take() (lines []pending, closed bool, err error) {
 	return lines, closed, nil
 }
 
-// other is the error of a batch that was sent before with other lines.
+// other returns the error for a batch that was sent before with other lines.
 func (l *Lane) other(err error) error {
 	return &bus.Final{Reason: fmt.Errorf("batch %q, partition %d: %w", l.sender.options.Batch, l.partition, err)}
 }
@@ -427,7 +426,7 @@ func (l *Lane) append() error {
 	return l.appender.Append(route, bus.OriginHeaders(from), l.message.body)
 }
 
-// Wait waits for something to happen, and takes it in.
+// Wait waits for an event, and handles it.
 func (l *Lane) Wait(ctx context.Context) error {
 	pause := time.Second
 	if gathers := l.gathers(); gathers > 0 {
@@ -452,7 +451,7 @@ func (l *Lane) Wait(ctx context.Context) error {
 	return nil
 }
 
-// confirmed takes in that the message on its way is in the log.
+// confirmed notes that the message in flight is in the log.
 func (l *Lane) confirmed() {
 	l.mutex.Lock()
 	defer l.mutex.Unlock()
@@ -470,7 +469,7 @@ func (l *Lane) confirmed() {
 	signal(l.room)
 }
 
-// end tells the partition that the batch has no further line, if it has all, and finishes the lane.
+// end sends the partition the end of the batch, if it has all of it, and finishes the lane.
 func (l *Lane) end() error {
 	l.mutex.Lock()
 	whole := !l.passed

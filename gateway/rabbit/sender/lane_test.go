@@ -10,8 +10,8 @@ import (
 	"gateway/rabbit/logs"
 )
 
-// Models have messages of their own, each message says how many models of its batch came before, and lines that were taken
-// before count, too.
+// Models have their own messages, each message has the number of its batch's models before it, and lines taken before count
+// too.
 func TestModelsHaveMessagesOfTheirOwn(t *testing.T) {
 	s := &Sender{options: Options{Settings: bus.Settings{Partitions: 1}, Named: true, Log: logs.New(io.Discard, "test"), Gauges: NewGauges()}, changed: make(chan struct{}, 1)}
 	l := newLane(s, 0)

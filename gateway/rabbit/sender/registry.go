@@ -7,7 +7,7 @@ import (
 	"gateway/rabbit/bus"
 )
 
-// Claim claims the sender's name, if it has one of its own.
+// Claim claims the sender's name, if it has its own.
 func (s *Sender) Claim(ctx context.Context) error {
 	if !s.options.Named {
 		return nil
@@ -18,7 +18,7 @@ func (s *Sender) Claim(ctx context.Context) error {
 	})
 }
 
-// watchName looks whether a newer process claims the name, until the context ends.
+// watchName watches for a newer process with the name, until the context ends.
 func (s *Sender) watchName(ctx context.Context) {
 	if !s.options.Named {
 		return
@@ -41,7 +41,7 @@ func (s *Sender) watchName(ctx context.Context) {
 	s.failFinally(err)
 }
 
-// failFinally ends all if the error is final.
+// failFinally ends everything if the error is final.
 func (s *Sender) failFinally(err error) {
 	var final *bus.Final
 	if errors.As(err, &final) {
@@ -49,7 +49,7 @@ func (s *Sender) failFinally(err error) {
 	}
 }
 
-// Check looks whether a newer process had claimed the name before now. The error is *bus.Superseded then.
+// Check checks whether a newer process claimed the name before now. The error is *bus.Superseded then.
 func (s *Sender) Check(ctx context.Context) error {
 	if !s.options.Named {
 		return nil
@@ -65,8 +65,8 @@ func (s *Sender) Check(ctx context.Context) error {
 	}
 }
 
-// withClaim does some work with the claim of the name, which it makes where there is none, again and again until it succeeds.
-// Where a newer process has claimed the name, the sender fails.
+// withClaim does some work with the claim of the name, again and again until it succeeds. It makes the claim if there is none.
+// If a newer process has claimed the name, the sender fails.
 func (s *Sender) withClaim(ctx context.Context, work func(bus.Link, *bus.Claim) error) error {
 	return bus.Again(ctx, s.options.Bus, s.options.Log, func(ctx context.Context) error {
 		link, err := s.connect(ctx)

@@ -11,13 +11,13 @@ import (
 	"gateway/rabbit/ledger"
 )
 
-// A scale knows how many partitions there are.
+// A scale knows the number of partitions.
 type scale interface {
 	Scaling() bus.Scaling
 	Newest() (bus.Settings, <-chan struct{})
 }
 
-// watchScale ends all once there is another number of partitions.
+// watchScale ends everything once there is another number of partitions.
 func (s *Sender) watchScale(ctx context.Context) {
 	if s.options.Scale == nil {
 		return
@@ -36,8 +36,8 @@ func (s *Sender) watchScale(ctx context.Context) {
 	}
 }
 
-// Look looks whether there was another number of partitions before now. The error is *bus.Rescaled then; otherwise each line that was
-// confirmed counts, since a log is closed only once that number can be seen. Then the lanes may end the batch.
+// Look checks whether there was another number of partitions before now. The error is *bus.Rescaled then. Otherwise each
+// confirmed line counts, as a log is closed only once the new number can be seen, and the lanes may end the batch.
 func (s *Sender) Look(ctx context.Context) error {
 	var newest bus.Settings
 	var known bus.Scaling
@@ -52,7 +52,7 @@ func (s *Sender) Look(ctx context.Context) error {
 		defer link.Close()
 		scale, err := bus.LookAtScale(link, known)
 		if err != nil && s.options.Bus.Judge(err) == bus.Missing {
-			return nil // an older program has declared the partitions
+			return nil // an older program declared the partitions
 		}
 		if err == nil {
 			newest, _ = scale.Newest()
@@ -79,15 +79,15 @@ func (s *Sender) letEnd() {
 	}
 }
 
-// mayEnd says whether the lanes may end the batch.
+// mayEnd reports whether the lanes may end the batch.
 func (s *Sender) mayEnd() bool {
 	s.mutex.Lock()
 	defer s.mutex.Unlock()
 	return s.looked
 }
 
-// ready waits until each partition has said which lines of the batch were taken before the number of partitions changed. One that
-// can't be reached while others can is passed by.
+// ready waits until each partition has said which lines of the batch were taken before the number of partitions changed. If one
+// can't be reached while others can, it is skipped.
 func (s *Sender) ready(ctx context.Context) error {
 	if !s.options.Named || s.options.Settings.Epoch == 0 {
 		return nil
@@ -122,7 +122,7 @@ func (s *Sender) isClaimed() bool {
 	return true
 }
 
-// Gather takes in what the partitions know of the batch. It comes before the first line.
+// Gather takes what the partitions know of the batch. Call it before the first line.
 func (s *Sender) Gather() {
 	for _, l := range s.lanes {
 		if l.IsClaimed() {
@@ -138,7 +138,7 @@ type takenCount struct {
 	upto  []int64 // of each partition, how many lines
 }
 
-// takenBeforeClose counts the lines of this process that count, where the number of partitions has changed.
+// takenBeforeClose counts this process's lines that count, if the number of partitions has changed.
 func (s *Sender) takenBeforeClose(ctx context.Context) (*takenCount, error) {
 	var count *takenCount
 	err := bus.Again(ctx, s.options.Bus, s.options.Log, func(ctx context.Context) error {
@@ -169,14 +169,14 @@ func (s *Sender) takenBeforeClose(ctx context.Context) (*takenCount, error) {
 	return count, nil
 }
 
-// hasNoMore says whether so many lines are all that the lane was given.
+// hasNoMore reports whether the lane got no more than this many lines.
 func (l *Lane) hasNoMore(upto int64) bool {
 	l.mutex.Lock()
 	defer l.mutex.Unlock()
 	return len(l.pending) == 0 && l.unsent == 0 && upto >= l.next
 }
 
-// takenBeforeCloseOf is what a partition took before its log was closed, which it waits for.
+// takenBeforeCloseOf returns what a partition took before its log was closed, and waits for the closing.
 func (s *Sender) takenBeforeCloseOf(link bus.Link, l *Lane) (takenLines, error) {
 	at := bus.Partition{Of: s.options.Settings, Number: l.partition}
 	switch {
@@ -200,7 +200,7 @@ func (s *Sender) takenBeforeCloseOf(link bus.Link, l *Lane) (takenLines, error) 
 	return takenLines{requests: batch.Count - batch.Models, models: batch.Models, upto: batch.Count}, nil
 }
 
-// unclosed is the error of a log that isn't closed.
+// unclosed returns the error for a log that isn't closed.
 func unclosed(err error) error {
 	if err == nil {
 		return nil
@@ -208,7 +208,7 @@ func unclosed(err error) error {
 	return fmt.Errorf("the change of the number of partitions isn't done: %w", err)
 }
 
-// readToClose takes the lines after the ledger's place in, up to where the log is closed.
+// readToClose takes the lines after the ledger's place, up to the log's closing.
 func readToClose(link bus.Link, at bus.Partition, l *ledger.Ledger) error {
 	stream, err := readLog(link, at.Queue(bus.Lines), l)
 	if err != nil {
@@ -226,7 +226,7 @@ func readToClose(link bus.Link, at bus.Partition, l *ledger.Ledger) error {
 	}
 }
 
-// rescaled is the tally where the number of partitions has changed: no error where all was taken before.
+// rescaled returns the tally after a change of the number of partitions: without an error if all was taken before.
 func (s *Sender) rescaled(ctx context.Context, tally Tally, reason *bus.Rescaled) (Tally, error) {
 	count, err := s.takenBeforeClose(ctx)
 	if err != nil {
@@ -246,8 +246,8 @@ func (s *Sender) rescaled(ctx context.Context, tally Tally, reason *bus.Rescaled
 	return tally, reason
 }
 
-// butRescaled is the error, unless it is another number of partitions: after a look that comes too late to change what counts, and nobody
-// needs to know that the batch has no further line.
+// butRescaled returns the error, unless it is another number of partitions: after a look, a change comes too late to affect
+// what counts, and nobody needs the end of the batch.
 func butRescaled(err error) error {
 	if _, is := isRescaled(err); is {
 		return nil
@@ -255,7 +255,7 @@ func butRescaled(err error) error {
 	return err
 }
 
-// isRescaled finds the reason where it is another number of partitions.
+// isRescaled finds the error if it is another number of partitions.
 func isRescaled(err error) (*bus.Rescaled, bool) {
 	var reason *bus.Rescaled
 	return reason, errors.As(err, &reason)

@@ -6,16 +6,16 @@ import (
 	"gateway/rabbit/line"
 )
 
-// Sections know which lines of a batch were taken before the number of partitions changed. Each partition of an earlier number took
-// the first lines that were its own, of those that none before it had taken; so the input says which these are. They
-// don't change any more, so each process skips the same lines. The zero value knows none.
+// A sections knows which lines of a batch were taken before the number of partitions changed. Each earlier partition took the
+// first of its lines that none before it had taken, so the input shows which these are. They no longer change, so each process
+// skips the same lines. The zero value knows none.
 type sections struct {
-	earlier []bus.Settings // the earlier numbers of partitions, the first one first
+	earlier []bus.Settings // the earlier numbers of partitions, oldest first
 	newest  bus.Settings
 	known   map[ledger.Origination]*known
 }
 
-// add takes in what a partition knows of the batch. Several partitions may know the same section.
+// add takes what a partition knows of the batch. Several partitions may know the same section.
 func (s *sections) add(batch *ledger.Batch) {
 	if batch == nil {
 		return
@@ -30,12 +30,12 @@ func (s *sections) add(batch *ledger.Batch) {
 	}
 }
 
-// at is what is known of a section, or nil.
+// at returns what is known of a section, or nil.
 func (s *sections) at(of bus.Settings, partition int) *known {
 	return s.known[ledger.Origination{Epoch: of.Epoch, Partitions: of.Partitions, Partition: partition}]
 }
 
-// takeRequest takes the next line of the input in, and says whether it was taken.
+// takeRequest takes the input's next line, and reports whether it was taken before.
 func (s *sections) takeRequest(text []byte, request line.Line) (bool, error) {
 	if len(s.known) == 0 {
 		return false, nil
@@ -50,10 +50,10 @@ func (s *sections) takeRequest(text []byte, request line.Line) (bool, error) {
 	return false, nil
 }
 
-// takeModel is takeRequest for a model, which went to each partition: it says of each of now whether all from which its keys come
-// have it.
+// takeModel is takeRequest for a model, which went to each partition: for each current partition it reports whether all earlier
+// partitions of its keys have it.
 func (s *sections) takeModel(text []byte) ([]bool, error) {
-	var has []bool // of the partitions of one number of them
+	var has []bool // for the partitions of one number
 	for at, of := range s.earlier {
 		now := make([]bool, of.Partitions)
 		for partition := range now {
@@ -76,7 +76,7 @@ func (s *sections) takeModel(text []byte) ([]bool, error) {
 	return each, nil
 }
 
-// hasEach says whether each partition of before has it from which keys of this one come.
+// hasEach reports whether each earlier partition of this one's keys has it.
 func hasEach(has []bool, before, after bus.Settings, partition int) bool {
 	for _, source := range bus.Sources(before, after, partition) {
 		if !has[source] {
@@ -86,7 +86,7 @@ func hasEach(has []bool, before, after bus.Settings, partition int) bool {
 	return true
 }
 
-// end takes in that the input has ended.
+// end notes that the input has ended.
 func (s *sections) end() error {
 	for _, section := range s.known {
 		if err := section.end(); err != nil {

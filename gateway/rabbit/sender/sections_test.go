@@ -10,7 +10,7 @@ import (
 	"gateway/rabbit/line"
 )
 
-// inputLines are requests with keys of all partitions, and models among them.
+// inputLines returns requests with keys of all partitions, and models among them.
 func inputLines(t *testing.T, count int) (texts [][]byte, parsed []line.Line) {
 	t.Helper()
 	for number := 0; number < count; number++ {
@@ -27,7 +27,7 @@ func inputLines(t *testing.T, count int) (texts [][]byte, parsed []line.Line) {
 	return texts, parsed
 }
 
-// sendTo lets partitions take what of an input sections leave, up to so many lines each, as the lanes do, and gives their ledgers.
+// sendTo lets partitions take the lines that sections leave, up to most each, as the lanes do, and returns their ledgers.
 func sendTo(t *testing.T, s *sections, ledgers []*ledger.Ledger, most int64, texts [][]byte, parsed []line.Line) (sent int) {
 	t.Helper()
 	from := ledger.Origin{Kind: ledger.Lines, Sender: "a", Named: true, Batch: "x"}
@@ -62,7 +62,7 @@ func sendTo(t *testing.T, s *sections, ledgers []*ledger.Ledger, most int64, tex
 	return sent
 }
 
-// A batch that is broken off under each of several numbers of partitions has each request once at the end, and each model in every
+// A batch that is interrupted under several numbers of partitions has each request once at the end, and each model in every
 // partition that needs it; and other lines are refused.
 func TestSectionsOverSeveralChanges(t *testing.T) {
 	const count = 200
@@ -114,7 +114,7 @@ func TestSectionsOverSeveralChanges(t *testing.T) {
 	}
 }
 
-// merged is the ledger with which a partition begins.
+// merged returns the ledger with which a partition begins.
 func merged(before, after bus.Settings, partition int, ledgers []*ledger.Ledger) *ledger.Ledger {
 	var sources []ledger.Source
 	for _, number := range bus.Sources(before, after, partition) {

@@ -1,5 +1,5 @@
-// Package sender sends lines to the partitions of their keys. Each partition has a lane of its own, with a connection of
-// its own: where one partition can't be reached, the others go on.
+// Package sender sends lines to the partitions of their keys. Each partition has its own lane and connection: if one can't be
+// reached, the others continue.
 package sender
 
 import (
@@ -17,65 +17,65 @@ import (
 	"gateway/rabbit/metrics"
 )
 
-// Options say what is sent, and as whom.
+// Options says what is sent, and by whom.
 type Options struct {
 	Bus      bus.Bus
 	Settings bus.Settings
 	Earlier  []bus.Settings // the earlier numbers of partitions
-	Scale    scale          // knows of later ones; nil where nobody watches
+	Scale    scale          // knows later ones; nil if nobody watches
 	Name     string         // the sender's name
-	Named    bool           // whether the name is its own, under which it may be started again
-	Batch    string         // the id of the batch that the input is; of a sender with a name of its own
+	Named    bool           // whether the name is its own, under which it may be restarted
+	Batch    string         // the input's batch id, for a sender with its own name
 	GiveUp   time.Duration
 	AtOnce   int // how many partitions are asked at a time
 	Input    io.Reader
 	Log      *logs.Log
 	Check    func(model []byte) error // refuses a faulty model
-	// Confirmed is told of each line that a partition has, where it isn't nil. It must not wait.
+	// Confirmed, unless nil, is called with each line that a partition has. It must not wait.
 	Confirmed func(line []byte)
-	// Numbered is told which number a line gets among those of its partition, where it isn't nil, before it is sent. Taken is told how
-	// many lines each partition took where the number of partitions has changed, and then the error is *bus.Rescaled.
+	// Numbered, unless nil, is called with each line's number among those of its partition, before it is sent. Taken is called
+	// with the lines that each partition took if the number of partitions has changed; the error is *bus.Rescaled then.
 	Numbered func(line []byte, partition int, number int64)
 	Taken    func(upto []int64)
-	Gauges   *metrics.Partitions // new ones, where it is nil
+	Gauges   *metrics.Partitions // new ones if nil
 }
 
 // A Tally counts lines of the input.
 type Tally struct {
 	Sent     int64 // confirmed by the broker, and taken
-	Repeated int64 // taken before, in an earlier run of the batch
+	Repeated int64 // taken in an earlier run of the batch
 	Refused  int64 // that can't be sent
-	Unsent   int64 // of partitions that could not be reached
+	Unsent   int64 // of unreachable partitions
 }
 
-// A Sender is a process that hands the lines of its input to the lanes of their partitions.
+// A Sender is a process that passes its input's lines to the lanes of their partitions.
 type Sender struct {
 	options  Options
 	lanes    []*Lane
 	sections sections
-	epoch    int64 // of this process; 0 without a name of its own
+	epoch    int64 // of this process; 0 without its own name
 	count    int64 // lines of the input
 	refused  int64
 	repeated int64      // taken before the number of partitions changed
 	fed      bool       // whether the input has ended
-	fault    chan error // the first has the reason why all ends
+	fault    chan error // the first is why everything ends
 	changed  chan struct{}
 	mutex    sync.Mutex
 	looked   bool // whether the number of partitions was the same once all was confirmed
 }
 
-// A modelTally counts a model once, in however many partitions it is taken.
+// A modelTally counts a model once, however many partitions take it.
 type modelTally struct{ counted sync.Once }
 
-// A pending line waits to be put into a message.
+// A pending is a line that waits for a message.
 type pending struct {
 	text  []byte
-	model *modelTally // of a model, which goes to several partitions
+	model *modelTally // for a model, which goes to several partitions
 }
 
 func (p pending) isModel() bool { return p.model != nil }
 
-// counts says whether a line is to be counted: a model is with the first of its partitions.
+// counts reports whether a line is to be counted: a model is with the first of its partitions.
 func (p pending) counts() (first bool) {
 	if p.model == nil {
 		return true
@@ -84,7 +84,7 @@ func (p pending) counts() (first bool) {
 	return first
 }
 
-// NewGauges are those of a sender that has sent nothing.
+// NewGauges returns the gauges of a sender that has sent nothing.
 func NewGauges() *metrics.Partitions { return metrics.NewPartitions("send") }
 
 // New makes a sender that has sent nothing.
@@ -143,18 +143,18 @@ func Send(ctx context.Context, options Options) (Tally, error) {
 	return s.Ended(whole, err)
 }
 
-// Lanes are the lanes, of each partition one.
+// Lanes returns the lanes, one for each partition.
 func (s *Sender) Lanes() []*Lane { return s.lanes }
 
-// Epoch is that of this process; 0 without a name of its own.
+// Epoch returns the epoch of this process; 0 without its own name.
 func (s *Sender) Epoch() int64 { return s.epoch }
 
-// origin is what this process says of itself on its messages.
+// origin returns what this process's messages say about it.
 func (s *Sender) origin() ledger.Origin {
 	return ledger.Origin{Kind: ledger.Lines, Sender: s.options.Name, Named: s.options.Named, Epoch: s.epoch, Batch: s.options.Batch}
 }
 
-// fail ends all, for this reason if it is the first.
+// fail ends everything, with this reason if it is the first.
 func (s *Sender) fail(reason error) {
 	select {
 	case s.fault <- reason:
@@ -170,7 +170,7 @@ func (s *Sender) notice() {
 	}
 }
 
-// feed hands the lines of the input to the lanes.
+// feed passes the input's lines to the lanes.
 func (s *Sender) feed(ctx context.Context) error {
 	input := readInput(ctx, s.options.Input)
 	for {
@@ -197,13 +197,13 @@ func (s *Sender) feed(ctx context.Context) error {
 	}
 }
 
-// Take takes a line of the input in.
+// Take takes a line of the input.
 func (s *Sender) Take(ctx context.Context, text []byte) error {
 	s.count++
 	return s.takeLine(ctx, inputLine{text: text})
 }
 
-// End takes in that the input has ended.
+// End notes that the input has ended.
 func (s *Sender) End() error {
 	if err := s.sections.end(); err != nil {
 		return fmt.Errorf("batch %q: %w", s.options.Batch, err)
@@ -239,7 +239,7 @@ func (s *Sender) takeLine(ctx context.Context, text inputLine) error {
 	return s.put(ctx, s.lanes[parsed.Partition(len(s.lanes))], pending{text: text.text})
 }
 
-// takeModel takes a model of the input in. It goes to each partition that hasn't got it.
+// takeModel takes a model of the input. It goes to each partition that doesn't have it.
 func (s *Sender) takeModel(ctx context.Context, text []byte) error {
 	has, err := s.sections.takeModel(text)
 	if err != nil {
@@ -272,7 +272,7 @@ func (s *Sender) read(text inputLine) (line.Line, error) {
 	return parsed, err
 }
 
-// put hands a line to a lane, once that has room. A lane that can't be reached while others can is passed by.
+// put passes a line to a lane, once it has room. If it can't be reached while others can, it is skipped.
 func (s *Sender) put(ctx context.Context, l *Lane, next pending) error {
 	if l.put(next) {
 		return nil
@@ -295,10 +295,10 @@ func (s *Sender) put(ctx context.Context, l *Lane, next pending) error {
 	return nil
 }
 
-// stuckTime is how long a lane may have no confirm before the lines of the others pass it by.
+// stuckTime is how long a lane may have no confirm before the other lanes' lines pass it.
 const stuckTime = 30 * time.Second
 
-// others says whether some other lane goes on.
+// others reports whether another lane continues.
 func (s *Sender) others(of *Lane) bool {
 	for _, l := range s.lanes {
 		if l != of && !l.isStuck(0) {
@@ -308,8 +308,8 @@ func (s *Sender) others(of *Lane) bool {
 	return false
 }
 
-// wait waits until each lane has come so far, or is given up: while a broker is reached, one that has had no confirm for so long as
-// the options say.
+// wait waits until each lane has come this far, or is given up: while a broker is reached, a lane is given up that has had no
+// confirm for as long as the options say.
 func (s *Sender) wait(ctx context.Context, has func(*Lane) bool) error {
 	look := time.NewTicker(time.Second)
 	defer look.Stop()
@@ -340,8 +340,8 @@ func (s *Sender) each(has func(*Lane) bool) bool {
 	return true
 }
 
-// Ended is what is reported at the end, by an error or without one. Where a newer process has taken the name, the lines are counted that were taken
-// before.
+// Ended returns the final report, with or without an error. If a newer process has taken the name, the lines taken before are
+// counted.
 func (s *Sender) Ended(ctx context.Context, err error) (Tally, error) {
 	tally := Tally{Refused: s.refused, Repeated: s.repeated}
 	var unreached []error

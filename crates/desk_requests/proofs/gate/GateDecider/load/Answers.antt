@@ -1,0 +1,16 @@
+use Rattle.std.proofs.Common.{◌∙◌}
+use Rattle.std.specs.Arc.{arc_value}
+use Rattle.serde_json.specs.View.{view}
+use Rattle.dmn_plan.specs.ReadModel.{read_model}
+use Rattle.desk_requests.proofs.Models.{due_model, faulty_of, loaded_of}
+use Rattle.desk_requests.proofs.gate.GateDecider.load.Goals as goal
+
+pub returns-in_ok-kept-in-Ok-clause-loaded : goal.returns-in_ok-kept-in-Ok-clause-loaded
+returns-in_ok-kept-in-Ok-clause-loaded c =
+    let json = view c.args.model.now in
+    loaded_of arc_value json (read_model json) c.in_ok-kept-in-Ok.kept c.in-Ok.ensures.read (c.in_ok-kept-in-Ok.ensures.ok ∙ c.in-Ok.ensures.compact)
+
+pub returns-in_default-clause-loaded : goal.returns-in_default-clause-loaded
+returns-in_default-clause-loaded c =
+    let json = view c.args.model.now in
+    faulty_of arc_value json (read_model json) c.in-Err.fault c.of_fault.result (due_model (read_model json) c.in-Err.fault c.in-Err.ensures.err c.in_default.not-Memory) c.of_fault.ensures
