@@ -1,8 +1,9 @@
 """What the check of a crate can read of the crates below it: the pieces that its own files name, and what these name in turn.
 
 A piece is a definition, a type, a trait, or a public function with its contract; with it go those imports of its file that it names.
-Names are taken by their letters alone, wherever they stand, so more is counted than what is read, never less. Of a type with a
-model callers see the value, and none of its private fields; where it has no others, they don't see what the model says of fields.
+Names are taken by their letters alone, wherever they stand, so more is counted than what is read, never less; but a definition of
+another crate has to be imported, or named with its module. Of a type with a model callers see the value, and none of its private
+fields; where it has no others, they don't see what the model says of fields.
 """
 
 from __future__ import annotations
@@ -19,7 +20,10 @@ from contract_names.specs import blocks_of
 from edits import code_file
 
 WORD = re.compile(r"[\w']+|[^\w\s(){}\[\],;.:'\"◌]+")
-IMPORT = re.compile(r"^ *(?:pub )?(?:ghost )?use ([^;{]*?)(?:\{([^}]*)\})?;?$", re.M | re.S)
+IMPORT = re.compile(r"^ *(pub )?(?:ghost )?use ([^;{]*?)(?:\{([^}]*)\})?;?$", re.M | re.S)
+QUALIFIED = re.compile(r"\bRattle\.([\w.◌+-]*\w)")
+# Under which place the imported names stand.
+IMPORTED = "imported"
 CONSTRUCTOR = re.compile(r"^\s+(?:\| |pub )?(\S+) :", re.M)
 COMMENT = {".rt": re.compile(r'"(?:\\.|[^"\\\n])*"|(?<!\S)//[^\n]*'), ".antt": re.compile(r'"(?:\\.|[^"\\\n])*"|(?<!\S)--[^\n]*')}
 
@@ -27,12 +31,13 @@ COMMENT = {".rt": re.compile(r'"(?:\\.|[^"\\\n])*"|(?<!\S)//[^\n]*'), ".antt": r
 @dataclass(frozen=True)
 class Piece:
     """A text of a place, a file or an impl of it, that is read where one of the names of each group is named: anywhere, or in what
-    is read of its own crate, as what isn't public, or of its own place, as imports."""
+    is read of its own crate, as what isn't public, or of its own place, as imports; or where it is imported under one of its paths."""
 
     place: Path
     text: str
     names: tuple[frozenset[str], ...]
     within: str = ""
+    paths: frozenset[str] = frozenset()
 
     def places(self) -> Iterator[str]:
         """Where names count that its text has."""
@@ -40,8 +45,9 @@ class Piece:
         if self.within != str(self.place):
             yield from (str(self.place), str(self.place.parent) if self.place.parent.suffix else "")
 
-    def is_named_in(self, words: set[str]) -> bool:
-        return all(group & words for group in self.names)
+    def is_named_in(self, named: dict[str, set[str]]) -> bool:
+        words = named.get(self.within, set())
+        return bool(self.paths & named[IMPORTED]) or all(group & words for group in self.names)
 
 
 def words_of(text: str) -> frozenset[str]:
@@ -53,13 +59,43 @@ def without_comments(text: str, suffix: str) -> str:
     return "\n".join(it.rstrip() for it in left.splitlines() if it.strip())
 
 
+def path_of(module: str) -> str:
+    """The path of a module, a definition or a type, without the name that it has in this file."""
+    return module.split(" as ")[0].strip().removeprefix("Rattle.").rstrip(".")
+
+
+def imported_in(text: str) -> set[str]:
+    """The paths of the definitions that a text imports, or names with their modules; `*` is any of a module."""
+    found = set[str]()
+    for _, module, names in IMPORT.findall(text):
+        path = path_of(module)
+        found |= {path, *(f"{path}.{it.split(' as ')[0].strip()}" for it in names.split(",") if it.strip())}
+        found |= set() if names else {f"{path}.*"}
+    for path in QUALIFIED.findall(IMPORT.sub("", text)):
+        found |= {path, f"{path}.*", f"{path.rpartition('.')[0]}.*"}
+    return found
+
+
+def module_of(path: Path) -> str:
+    """The path of the module that a file of specs/ is."""
+    return ".".join(path.with_suffix("").parts[path.parts.index("crates") + 1 :])
+
+
 def imports_in(place: Path, text: str) -> Iterator[Piece]:
     """The imports of a file or of an impl, each name by itself."""
-    for path, names in IMPORT.findall(text):
+    for is_public, path, names in IMPORT.findall(text):
         for name in (names or re.split(r"::|\.", path)[-1]).split(","):
             short = name.split(" as ")[-1].strip()
+            paths = paths_of(place, [short]) if is_public and place.suffix == ".antt" else frozenset()
             if short:
-                yield Piece(place, f"use {path.strip()} {' '.join(name.split())}", (words_of(short),), str(place))
+                written = f"use {path.strip()}{{{' '.join(name.split())}}}" if names else f"use {path.strip()}"
+                yield Piece(place, written, (words_of(short),), str(place), paths)
+
+
+def paths_of(path: Path, names: list[str]) -> frozenset[str]:
+    """Under which paths definitions of these names in a file of specs/ are imported."""
+    module = module_of(path)
+    return frozenset([f"{module}.*", *(f"{module}.{it}" for it in names)])
 
 
 def definitions_in(path: Path) -> Iterator[Piece]:
@@ -68,11 +104,11 @@ def definitions_in(path: Path) -> Iterator[Piece]:
     yield from imports_in(path, "\n".join(it for it in text.splitlines() if it.startswith("use ")))
     for block in blocks_of(path.name, text):
         written = "\n".join(line for _, line in block.lines)
-        names = words_of(block.key[1].replace("◌", " "))
-        if re.match(r"\s*(?:pub )?data ", written):
-            names |= {word for it in CONSTRUCTOR.findall(written) for word in words_of(it)}
+        constructors = CONSTRUCTOR.findall(written) if re.match(r"\s*(?:pub )?data ", written) else []
+        names = words_of(" ".join([block.key[1], *constructors]).replace("◌", " "))
+        paths = paths_of(path, [block.key[1], *constructors])
         if not written.startswith("pub mod "):
-            yield Piece(path, written, () if block.is_section() else (names,))
+            yield Piece(path, written, () if block.is_section() else (names,), crate_of(path), paths)
 
 
 def crate_of(path: Path) -> str:
@@ -147,17 +183,18 @@ def pieces_of(folder: Path) -> tuple[Piece, ...]:
 
 def reached(texts: list[str], folders: list[Path]) -> list[str]:
     """The texts of the pieces of these crates that the texts name, and what these name in turn."""
-    named = {"": {word for it in texts for word in words_of(it)}}
+    named = {"": {word for it in texts for word in words_of(it)}, IMPORTED: {path for it in texts for path in imported_in(it)}}
     left = [piece for it in folders for piece in pieces_of(it)]
     found: list[str] = []
     while True:
         now, later = list[Piece](), list[Piece]()
         for it in left:
-            (now if it.is_named_in(named.get(it.within, set())) else later).append(it)
+            (now if it.is_named_in(named) else later).append(it)
         if not now:
             return sorted(found)
         left = later
         for it in now:
             found.append(it.text)
+            named[IMPORTED] |= imported_in(it.text)
             for place in it.places():
                 named.setdefault(place, set()).update(words_of(it.text))

@@ -88,7 +88,7 @@ func (l *ruleList) UnmarshalJSON(text []byte) error {
 
 // An undecided says why something about a table is not known.
 type undecided struct {
-	// Rules have tests that names or lists decide. Outputs are two rules that both apply and whose outputs names decide. Ranks
+	// Rules have tests that names or lists decide, or that break a limit. Outputs are two rules that both apply and whose outputs names decide. Ranks
 	// are rules whose order is not known. Idle are rules for which no deciding values were found.
 	Rules   ruleList `json:"rules,omitempty"`
 	Outputs ruleList `json:"outputs,omitempty"`

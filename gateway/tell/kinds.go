@@ -13,7 +13,7 @@ type kinds struct{ numbers, texts, truths, null, parted bool }
 
 var everyKind = kinds{true, true, true, true, true}
 
-// columnKinds returns the kinds of the constants in a column's tests, or every kind if there are none.
+// columnKinds returns the kinds of the constants in a column's tests, or every kind if there are none but null.
 func columnKinds(tests []strict.Tests) kinds {
 	var k kinds
 	for _, of := range tests {
@@ -21,24 +21,32 @@ func columnKinds(tests []strict.Tests) kinds {
 			k.see(test)
 		}
 	}
-	if k == (kinds{}) {
+	if k == (kinds{}) || k == (kinds{null: true}) {
 		return everyKind
 	}
 	return k
 }
 
-// see adds the kinds of a test's constants.
+// see adds the kinds of a test's constants: of a list those of its members.
 func (k *kinds) see(test feel.Node) {
-	switch of := test.(type) {
+	switch of := bare(test).(type) {
 	case *feel.Unary:
-		k.see(of.Operand)
+		k.add(of.Operand)
 	case *feel.Range:
-		k.see(of.Low)
-		k.see(of.High)
-	case *feel.Number:
-		k.numbers = true
-	case *feel.Negation:
-		k.numbers = k.numbers || isConstant(of)
+		k.add(of.Low)
+		k.add(of.High)
+	case *feel.List:
+		for _, item := range of.Items {
+			k.add(item)
+		}
+	default:
+		k.add(test)
+	}
+}
+
+// add adds the kind of an expression, where it is a constant.
+func (k *kinds) add(node feel.Node) {
+	switch bare(node).(type) {
 	case *feel.String:
 		k.texts = true
 	case *feel.Boolean:
@@ -47,7 +55,43 @@ func (k *kinds) see(test feel.Node) {
 		k.null = true
 	case *feel.List:
 		k.parted = true
+	default:
+		k.numbers = k.numbers || isSum(node)
 	}
+}
+
+// bare is an expression without its parentheses.
+func bare(node feel.Node) feel.Node {
+	for {
+		group, ok := node.(*strict.Group)
+		if !ok {
+			return node
+		}
+		node = group.Inside
+	}
+}
+
+// isSum tells whether an expression is of numbers alone, with parentheses, "-", "+" and "*".
+func isSum(node feel.Node) bool {
+	switch of := bare(node).(type) {
+	case *feel.Number:
+		return true
+	case *feel.Negation:
+		return isSum(of.Operand)
+	case *feel.Chain:
+		for _, operator := range of.Operators {
+			if !strings.Contains("+-*", operator) {
+				return false
+			}
+		}
+		for _, operand := range of.Operands {
+			if !isSum(operand) {
+				return false
+			}
+		}
+		return true
+	}
+	return false
 }
 
 // isConstant reports whether an expression is a constant, or a number after a minus.

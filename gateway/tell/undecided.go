@@ -9,7 +9,7 @@ func (t *tableReport) notDecided() {
 		t.undecided("rules %d and %d both apply, and names decide what they give", why.Outputs[0], why.Outputs[1])
 	}
 	if len(why.Rules) > 0 {
-		t.undecided("%s %s tests that names or lists decide", ruleNumbers(why.Rules), oneOrMore(why.Rules, "has", "have"))
+		t.undecided("%s %s tests that names or lists decide, or that break a limit", ruleNumbers(why.Rules), oneOrMore(why.Rules, "has", "have"))
 	}
 	if len(why.Ranks) > 0 {
 		give := oneOrMore(why.Ranks, "gives", "give")

@@ -57,6 +57,9 @@ def wrong_gaps(row: Row, scan: Scan, told: Told) -> Iterator[str]:
             yield f"{point} is in the cells of {in_cells[0].line}, and has a rule"
         if scan.hits(point) or told.more or row.told[0] is not False:
             continue
+        # Where a rule is undecided, it is so of some values whether they have a rule.
+        if not row.is_constant and told.undecided.get("rules"):
+            continue
         if not in_cells:
             yield f"{point} has no rule, and is in no gap"
         elif scan.is_asked(point, ASKED) and row.told[1] is False and not any(it.is_asked for it in in_cells):

@@ -61,7 +61,7 @@ ROWS = [
         gaps=[(17, False), (None, None)], taken=[(18, None), (17, True)], overlaps=[(1, 2)]),
     Row("a path of three names beside one of two and an input", [["0", "true", "-"], ["not(0)", "-", "true"]], (NO, NO, NO, YES), columns=["p.q.r", "p.s", "a"],
         gaps=[(0, False, True), (1, True, False)], taken=[(0, True, None), (1, None, True)]),
-    Row("an input and a path of it hang together", [["null", "-"], ["-", "5"]], (NO, YES, YES, NO), columns=["p", "p.x"], sure=False,
+    Row("an input and a path of it hang together", [["null", "-"], ["-", "5"]], (NO, NO, NO, NO), columns=["p", "p.x"], sure=False,
         gaps=[({}, 4), (0, None)], taken=[(None, 4), ({}, 5)], overlaps=[(1, 2)]),
     Row("one path in two columns", [["true", "-"], ["-", "false"]], (NO, NO, NO, NO), columns=["p.x", "p.x"], sure=False,
         gaps=[(False, True)], taken=[(True, True), (False, False)], overlaps=[(1, 2)]),

@@ -132,12 +132,12 @@ ROWS: list[tuple[str, object, list[str]]] = [
     (
         "a test that a name decides",
         one("x", "-", names="x"),
-        ['table: decisions[0] "d": 2 rules, U: complete, overlaps not decided', "  not decided: rule 1 has tests that names or lists decide"],
+        ['table: decisions[0] "d": 2 rules, U: complete, overlaps not decided', "  not decided: rule 1 has tests that names or lists decide, or that break a limit"],
     ),
     (
         "a test that breaks a limit for all values",
         one("-", "> 9223372036854775807 + 1", hit="C"),
-        ['table: decisions[0] "d": 2 rules, C: complete', "  not decided: no values were found for which rule 2 decides"],
+        ['table: decisions[0] "d": 2 rules, C: not decided', "  not decided: rule 2 has tests that names or lists decide, or that break a limit"],
     ),
     (
         "a test that compares texts by order",

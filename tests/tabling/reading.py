@@ -1,13 +1,15 @@
-"""Reads the input entries of the rows: the unary tests of docs/MODEL.md over literals, lists of them, names and sums."""
+"""Reads the input entries of the rows: the unary tests of docs/MODEL.md over literals, lists of them, names, and `+`, `-` and `*`."""
 
 from __future__ import annotations
 
+import operator
 import re
+from collections.abc import Callable
 from dataclasses import dataclass, field
 
 from .meaning import MOST, Expression, Limit, Names, Test, any_of, compared, interval, kind, literal, name, none_of, same
 
-TOKEN = re.compile(r'\s*(?:(\d+)|([A-Za-z_]\w*)|("(?:[^"\\]|\\["\\nrt])*")|(\.\.|<=|>=|[-+<>()\[\],]))', re.ASCII | re.DOTALL)
+TOKEN = re.compile(r'\s*(?:(\d+)|([A-Za-z_]\w*)|("(?:[^"\\]|\\["\\nrt])*")|(\.\.|<=|>=|[-+*<>()\[\],]))', re.ASCII | re.DOTALL)
 ESCAPES = {"\\n": "\n", "\\r": "\r", "\\t": "\t", '\\"': '"', "\\\\": "\\"}
 CONSTANTS = {"true": True, "false": False, "null": None}
 
@@ -18,8 +20,8 @@ class Entry:
 
     test: Test
     constants: list[object] = field(default_factory=list)
-    # The literals that stand in its lists, of which none is a constant of the entry's own.
-    members: list[object] = field(default_factory=list)
+    # The lists that stand in it.
+    lists: list[object] = field(default_factory=list)
     # Whether it compares texts by order.
     has_order: bool = False
     # Whether each of its values is a literal, with a minus or without; lists are none.
@@ -46,18 +48,22 @@ def text_of(token: str) -> str:
     return re.sub(r"\\.", lambda it: ESCAPES[it[0]], token[1:-1])
 
 
-def summed(one: Expression, other: Expression) -> Expression:
-    """A sum, which is null where an operand is no number and breaks a limit out of range."""
+OPERATORS: dict[str, Callable[[int, int], int]] = {"+": operator.add, "-": operator.sub, "*": operator.mul}
+
+
+def worked_out(one: Expression, sign: str, other: Expression) -> Expression:
+    """A sum, a difference or a product, which is null where an operand is no number and breaks a limit out of range."""
 
     def value(names: Names) -> object:
         a, b = one.value(names), other.value(names)
         if kind(a) != "int" or kind(b) != "int":
             return None
-        if abs(a + b) > MOST:  # type: ignore[operator]
+        found = OPERATORS[sign](a, b)  # type: ignore[arg-type]
+        if abs(found) > MOST:
             raise Limit
-        return a + b  # type: ignore[operator]
+        return found
 
-    return Expression(f"{one.text} + {other.text}", value)
+    return Expression(f"{one.text} {sign} {other.text}", value)
 
 
 class Reader:
@@ -66,6 +72,7 @@ class Reader:
     def __init__(self, text: str) -> None:
         self.left = tokens_of(text)
         self.entry = Entry(Test(text, lambda value, names: True))
+        self.has_no_name = True
 
     def take(self, *wanted: str) -> str:
         token = self.left.pop(0)
@@ -81,24 +88,26 @@ class Reader:
         return literal(value)
 
     def listed(self) -> Expression:
-        """A list, behind its bracket, which is a constant itself."""
-        before, found = len(self.entry.constants), list[Expression]()
+        """A list, behind its bracket: its members are constants of the entry, and it is one of its lists."""
+        found = list[Expression]()
         while not self.next_is("]"):
             found.append(self.value())
             if not self.next_is("]"):
                 self.take(",")
         self.take("]")
-        self.entry.members += self.entry.constants[before:]
-        del self.entry.constants[before:]
         has_names = any(it[0].isalpha() for it in (one.text for one in found) if it not in CONSTANTS)
-        self.entry.constants.append([] if has_names else [it.value({}) for it in found])
+        self.entry.lists.append([] if has_names else [it.value({}) for it in found])
         self.entry.is_literal = False
         return Expression(f"[{', '.join(it.text for it in found)}]", lambda names: [it.value(names) for it in found])
 
     def primary(self) -> Expression:
         token = self.take()
         if token == "-":
-            return self.constant(-int(self.take()))
+            return worked_out(literal(0), "-", self.primary())
+        if token == "(":
+            found = self.value()
+            self.take(")")
+            return found
         if token.isdigit():
             return self.constant(int(token))
         if token.startswith('"'):
@@ -107,18 +116,34 @@ class Reader:
             return self.listed()
         if token in CONSTANTS:
             return self.constant(CONSTANTS[token])
-        self.entry.is_literal = False
+        self.entry.is_literal = self.has_no_name = False
         return name(token)
 
-    def value(self) -> Expression:
-        before = len(self.entry.constants)
+    def product(self) -> Expression:
         found = self.primary()
-        while self.next_is("+"):
-            self.take("+")
-            found = summed(found, self.primary())
-            del self.entry.constants[before:]
-            self.entry.is_literal = False
+        while self.next_is("*"):
+            found = worked_out(found, self.take(), self.primary())
         return found
+
+    def value(self) -> Expression:
+        """An expression; where no name stands in one that is worked out, its value is the constant."""
+        before, had_no_name, self.has_no_name = len(self.entry.constants), self.has_no_name, True
+        at = len(self.left)
+        found = self.product()
+        while self.next_is("+", "-"):
+            found = worked_out(found, self.take(), self.product())
+        if at - len(self.left) > 1 and "[" not in found.text:
+            del self.entry.constants[before:]
+            if self.has_no_name:
+                self.worked_out(found)
+        self.has_no_name = self.has_no_name and had_no_name
+        return found
+
+    def worked_out(self, found: Expression) -> None:
+        try:
+            self.entry.constants.append(found.value({}))
+        except Limit:
+            self.entry.is_literal = False
 
     def bound(self) -> Expression:
         """A value with which the input is compared by order."""

@@ -55,7 +55,7 @@ class Column:
         return [it for entry in self.entries for it in entry.constants]
 
     def tried(self) -> Iterator[object]:
-        named = [*self.constants, *(it for entry in self.entries for it in entry.members)]
+        named = [*self.constants, *(it for entry in self.entries for it in entry.lists)]
         beside = [it + more for it in named if kind(it) == "int" for more in (-1, 0, 1)]  # type: ignore[operator]
         yield from (it for it in sorted({0, MOST, -MOST, MOST - 1, 1 - MOST, *beside}) if abs(it) <= MOST)
         words = [it for it in named if isinstance(it, str)]
@@ -77,8 +77,8 @@ class Column:
             return False
 
     def is_asked(self, value: object, domain: str) -> bool:
-        """Whether the domain has the value; a column without a constant asks for every value."""
-        if domain == EVERY or not self.constants:
+        """Whether the domain has the value; a column without a constant but null asks for every value."""
+        if domain == EVERY or all(it is None for it in self.constants):
             return True
         if domain == WORDS and isinstance(value, str) and not any(it.has_order for it in self.entries):
             return value in [it for it in self.constants if isinstance(it, str)]

@@ -90,6 +90,11 @@ class Told:
     findings: list[Finding] = field(default_factory=list)
     more: dict[str, int] = field(default_factory=dict)
 
+    @property
+    def undecided(self) -> Json:
+        """Why something about the table isn't known."""
+        return self.line.get("undecided", {})  # type: ignore[return-value]
+
     def of(self, kind: str) -> list[Finding]:
         return [it for it in self.findings if it.kind == kind]
 

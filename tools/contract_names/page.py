@@ -24,7 +24,7 @@ CALLS = {
 INTRODUCTION = """
 # What has to be believed
 
-This page is for people who want to check what the promises rest on. `tools/trust` writes it from the sources.
+This page lists what the promises rest on; `tools/trust` writes it from the sources.
 
 A proof shows that a function does what its contract says, not that this was meant: read the contract and the
 definitions it uses, listed below, lowest crate first and what is used before what uses it. Nothing else has
@@ -41,7 +41,7 @@ crates/box_core/src/broker.rt: 24-31, 35-39
     Broker Model for Broker
 ```
 
-This prints each file's lines and names (a range may contain blank lines). `tools/trust --why NAME` says what reaches
+This prints each file's lines and names. `tools/trust --why NAME` says what reaches
 NAME.
 
 **How the list was made.** The script follows names: from a contract to definitions, and to the names in them, from a
@@ -172,7 +172,7 @@ class Page:
                 place = f"{linked(where)} {min(items[0].lines)}-{max(items[0].lines)}"
             rows.append(f"| {letter} | `{name}`: {does} | {place} | {self.count(self.called[letter]):,} |")
         both = self.count(self.called["D"] | self.called["S"])
-        rests = fill(f"For `desk serve` read the files with D or S, {both:,} lines; for another command those with D. Blank lines don't count.", 120)
+        rests = fill(f"For `desk serve` read the files with D or S, {both:,} lines; for another command those with D.", 120)
         return [*rows, f"| | all | | {self.count(self.all):,} |", "", *rests.splitlines()]
 
     def files(self) -> list[str]:

@@ -1,10 +1,11 @@
 -- What a lane's calls make of it, and what stays of a list of lanes.
-use Rattle.std.proofs.Common.{◌≡◌, ◌≢◌, ℕ, zero, suc, ◌+◌, ◌-◌, ◌<◌, ◌≤◌, ◌⊎◌, ⊎_elim, Bool, List, [], ◌∷◌, ◌++◌, Option, Some, None, IfSome, IfNone, length, map, drop, slice_get, refl, sym, ap, ◌∙◌, subst, arith, append-nil}
+use Rattle.std.proofs.Common.{◌≡◌, ◌≢◌, ℕ, zero, suc, ◌+◌, ◌-◌, ◌<◌, ◌≤◌, ◌⊎◌, ⊎_elim, Bool, true, false, List, [], ◌∷◌, ◌++◌, Option, Some, None, IfSome, IfNone, length, map, drop, slice_get, refl, sym, ap, ◌∙◌, subst, arith, append-nil, ltb-true}
+use Rattle.std.specs.Prelude.{nat_lt}
 use Rattle.std.proofs.lemmas.List.{length-map}
 use Rattle.std.proofs.lemmas.List.Sorted.{IsPermutation-refl}
 use Rattle.box_core.specs.Answer.{Ticketed}
 use Rattle.box_core.specs.History.{Report, Kept}
-use Rattle.box_core.specs.Mail.{Mail, Place, accepted_in, kept_of_place, resize_refusal_by, resize_refusal_in, with_capacity, with_close}
+use Rattle.box_core.specs.Mail.{Mail, Place, accepted_in, is_no_capacity, kept_of_place, resize_refusal_by, resize_refusal_in, with_capacity, with_close}
 use Rattle.box_core.specs.declared.faults.Refusal.{Refusal}
 use Rattle.box_core.specs.declared.faults.Refusal.TheVariants as refusal
 use Rattle.box_core.specs.declared.work.Reply.{Reply}
@@ -29,6 +30,14 @@ resize_whole closed accepted handed n e = let none : accepted - handed ≡ 0 = o
 
 pub no_memory : (due : Option Refusal) (n m : ℕ) (why : Refusal) → (due ≡ Some why) ⊎ ((due ≡ None) × (n ≢ m) × (why ≡ refusal.Memory)) → why ≢ refusal.Memory → due ≡ Some why
 no_memory due n m why told other = ⊎_elim (λ (is : due ≡ Some why). is) (λ (is : (due ≡ None) × (n ≢ m) × (why ≡ refusal.Memory)). absurd (other is.2)) told
+
+not_less : (n : ℕ) (b : Bool) → nat_lt n 0 ≡ b → b ≡ false
+not_less n true e = let less : n < 0 = ltb-true n 0 e in absurd (omega (arith, less))
+not_less n false e = refl
+
+-- a whole lane that is open refuses nothing that is a capacity
+pub none_refused : (closed : Bool) (n : ℕ) → closed ≡ false → is_no_capacity n ≡ false → resize_refusal_by closed 0 0 n ≡ None
+none_refused closed n yet some = rw (yet, some, not_less n (nat_lt n 0) refl) refl
 
 -- ## A poll
 

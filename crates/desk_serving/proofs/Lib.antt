@@ -4,6 +4,7 @@ pub mod Owing
 pub mod Standing
 pub mod Replying
 pub mod Hearing
+pub mod Settling
 pub mod Saying
 pub mod Outcomes
 pub mod EndingLanes

@@ -1,7 +1,7 @@
 -- What stays of a list of lanes, and what a request that is put adds to what is owed.
-use Rattle.std.proofs.Common.{◌≡◌, ℕ, zero, suc, ◌+◌, ◌<◌, ◌≤◌, Bool, true, false, List, [], ◌∷◌, ◌++◌, Option, Some, None, Ok, length, map, drop, take, slice_get, length-append, string_bytes, slice_set, slice_index_or, if◌then◌else◌, refl, sym, ap, ◌∙◌, arith, append_assoc, append-nil, subst}
-use Rattle.std.specs.Prelude.{bytes_eq}
-use Rattle.std.specs.List.{flat_map}
+use Rattle.std.proofs.Common.{◌≡◌, ℕ, zero, suc, ◌+◌, ◌<◌, ◌≤◌, Bool, true, false, List, [], ◌∷◌, ◌++◌, Option, Some, None, length, map, drop, slice_get, length-append, string_bytes, slice_set, slice_index_or, if◌then◌else◌, refl, sym, ap, ◌∙◌, arith, append_assoc, append-nil, subst}
+use Rattle.std.specs.Prelude.{bytes_eq, nat_le}
+use Rattle.std.proofs.lemmas.Bool.Decides.{nat_tests}
 use Rattle.std.proofs.lemmas.List.{length-map, map-append}
 use Rattle.dmn_plan.specs.Request.{Request, request_result}
 use Rattle.feel_value.specs.declared.feel.Outcome.{Outcome}
@@ -10,18 +10,15 @@ use Rattle.lanes.proofs.Making.{map_set}
 use Rattle.desk_serving.specs.LanesView.{ArePolled, IsPolled, lanes_in, names_in}
 use Rattle.desk_serving.specs.declared.named_lanes.Lanes.{Lanes}
 use Rattle.desk_lines.specs.Lines.{ended}
-use Rattle.desk_serving.specs.Owed.{Lane, lane_of, replies, due, due_to, due_to_name, unhanded, Hands, HandsOwn, HandsThen, with_put, with_put_if}
+use Rattle.desk_serving.specs.Owed.{Lane, lane_of, replies, due, due_to, due_to_name, unhanded, Hands, HandsOwn, HandsThen, with_put}
 use Rattle.desk_requests.specs.State.{AreDistinct, with_lane}
 use Rattle.desk_wire.specs.Reports.{Report, Of, Reply, report_text}
 use Rattle.desk_wire.specs.declared.report.Told.{Told}
-use Rattle.desk_wire.specs.declared.report.Told.TheVariants as told
-use Rattle.desk_wire.specs.declared.word.Word.TheVariants as word
-use Rattle.desk_serving.specs.Script.{of_client, texts_of}
-use Rattle.desk_requests.specs.Due.{task_answer}
+use Rattle.desk_serving.specs.Script.{of_client}
 use Rattle.feel_value.specs.Distinct.{is_among}
 use Rattle.desk_requests.proofs.Callers.{distinct-push}
-use Rattle.desk_serving.proofs.Owing.{of_client-append, of_other, of_same, lines-append, due_to_own, due_to_other, due-whole, set_at, own_hands, hands_then_report, unhanded_at, unhanded_with}
-use Rattle.desk_requests.proofs.Names.{same_name, name_itself, turned_name, or_false, get_map, get_at}
+use Rattle.desk_serving.proofs.Owing.{of_other, of_same, due_to_own, due_to_other, due-whole, set_at, own_hands, hands_then_report, unhanded_at, unhanded_with}
+use Rattle.desk_requests.proofs.Names.{among_at, same_name, name_itself, get_map, get_at, get_inside}
 use Rattle.model_marks.specs.declared.mark.Catalog.{Ghosts}
 
 -- ## Lists of lanes
@@ -33,11 +30,6 @@ pub there_at : {X : Type 0} (xs : List X) (c : ℕ) → c < length xs → (x : X
 there_at [] c h = absurd (omega (arith, h))
 there_at (x ∷ xs) zero h = (x, refl)
 there_at (x ∷ xs) (suc c) h = there_at xs c (omega (arith, h))
-
-pub set_back : {X : Type 0} (xs : List X) (c : ℕ) (x : X) → slice_get xs c ≡ Some x → slice_set xs c x ≡ xs
-set_back [] c x h = cc
-set_back (y ∷ xs) zero x h = let is : y ≡ x = cc in ap (λ z. z ∷ xs) (sym is)
-set_back (y ∷ xs) (suc c) x h = ap (λ zs. y ∷ zs) (set_back xs c x h)
 
 pub some_same : {X : Type 0} (o : Option X) (x y : X) → o ≡ Some x → o ≡ Some y → x ≡ y
 some_same o x y p q = cc
@@ -97,6 +89,47 @@ same_at old mid c x lane e at la =
 
 pub with_lane-known : (lanes : ℕ) (n : List ℕ) (names : List (List ℕ)) → is_among names n ≡ true → with_lane lanes n names ≡ names
 with_lane-known lanes n names h = rw h refl
+
+pub with_lane-full : (lanes : ℕ) (n : List ℕ) (names : List (List ℕ)) → is_among names n ≡ false → lanes ≤ length names → with_lane lanes n names ≡ names
+with_lane-full lanes n names new full = rw (new, no_lane lanes (length names) full) refl
+  where
+    no_lane : (a b : ℕ) → a ≤ b → nat_le a b ≡ true
+    no_lane a b h = grind (arith, nat_tests)
+
+pub with_lane-next : (lanes : ℕ) (n : List ℕ) (names : List (List ℕ)) → is_among names n ≡ false → length names < lanes → with_lane lanes n names ≡ names ++ n ∷ []
+with_lane-next lanes n names new room = rw (new, a_lane lanes (length names) room) refl
+  where
+    a_lane : (a b : ℕ) → b < a → nat_le a b ≡ false
+    a_lane a b h = grind (arith, nat_tests)
+
+get_before : {X : Type 0} (xs ys : List X) (c : ℕ) → c < length xs → slice_get (xs ++ ys) c ≡ slice_get xs c
+get_before [] ys c h = absurd (omega (arith, h))
+get_before (x ∷ xs) ys zero h = refl
+get_before (x ∷ xs) ys (suc c) h = let less : c < length xs = omega (arith, h) in get_before xs ys c less
+
+-- a name that has the lane at a place where there is a name has had it
+pub with_lane-had : (lanes : ℕ) (n : List ℕ) (names : List (List ℕ)) (c : ℕ) (b d : Bool) → is_among names n ≡ b → nat_le lanes (length names) ≡ d → slice_get (with_lane lanes n names) c ≡ Some n → c < length names
+    → with_lane lanes n names ≡ names
+with_lane-had lanes n names c true d eb ed at h = rw eb refl
+with_lane-had lanes n names c false true eb ed at h = rw (eb, ed) refl
+with_lane-had lanes n names c false false eb ed at h =
+    let next : with_lane lanes n names ≡ names ++ n ∷ [] = rw (eb, ed) refl in
+    let there : is_among names n ≡ true = among_at n names c (sym (get_before names (n ∷ []) c h) ∙ ap (λ (ns : List (List ℕ)). slice_get ns c) (sym next) ∙ at) in
+    let wrong : true ≡ false = sym there ∙ eb in cc
+
+-- and where there is none it gets the next
+pub with_lane-gets : (lanes : ℕ) (n : List ℕ) (names : List (List ℕ)) (c : ℕ) (b d : Bool) → is_among names n ≡ b → nat_le lanes (length names) ≡ d → slice_get (with_lane lanes n names) c ≡ Some n → length names ≤ c
+    → (is_among names n ≡ false) × (length names < lanes)
+with_lane-gets lanes n names c true d eb ed at h =
+    let same : with_lane lanes n names ≡ names = rw eb refl in
+    let less : c < length names = get_inside names c n (ap (λ (ns : List (List ℕ)). slice_get ns c) (sym same) ∙ at) in absurd (omega (arith, less, h))
+with_lane-gets lanes n names c false true eb ed at h =
+    let same : with_lane lanes n names ≡ names = rw (eb, ed) refl in
+    let less : c < length names = get_inside names c n (ap (λ (ns : List (List ℕ)). slice_get ns c) (sym same) ∙ at) in absurd (omega (arith, less, h))
+with_lane-gets lanes n names c false false eb ed at h = (eb, a_lane lanes (length names) ed)
+  where
+    a_lane : (a b : ℕ) → nat_le a b ≡ false → b < a
+    a_lane a b e = grind (arith, nat_tests)
 
 pub pushed_names : {A B : Type 0} (f : A → List ℕ) (clients : List B) (names names' : List A) (x : A) (b : Bool) → names' ≡ (if b then names ++ x ∷ [] else names) → AreDistinct (map f names)
     → is_among (map f names) (f x) ≡ false → length names < length clients → (length names' ≤ length clients) × AreDistinct (map f names')
@@ -160,24 +193,6 @@ pub put_unhanded : (old mid : List Lane) (c : ℕ) (x lane : Lane) (q : Request)
     → unhanded (slice_set mid c (with_put x q)) ≡ unhanded (slice_set old c (with_put lane q))
 put_unhanded old mid c x lane q e la was =
     let same = same_at old mid c x lane e la was in unhanded_with mid old c (with_put x q) (with_put lane q) e (ap (λ (qs : List Request). qs ++ q ∷ []) same.0) same.1
-
-pub with_put-closed : (lane : Lane) (q : Request) → lane.closed ≡ true → with_put_if lane q ≡ lane
-with_put-closed lane q h = rw h refl
-
-pub closed_answer : (k : ℕ) (name : List ℕ) (closed : Bool) (ticket : ℕ) (q : Request) → closed ≡ true → Of name k (told.Refused word.Closed) ≡ task_answer k name closed ticket (Ok q)
-closed_answer k name true ticket q h = refl
-closed_answer k name false ticket q h = cc
-
--- results were handed out, and then the line was answered
-pub hands_before : (names : List (List ℕ)) (a b c : List Lane) (e : Report) (s t u : List ℕ) → Hands names a b s t → HandsThen names b c e t u → HandsThen names a c e s u
-hands_before names a b c e s t u x y = record {
-  more = x.more ++ y.more;
-  is = y.is ∙ ap (λ v. v ++ flat_map ended (texts_of y.more)) x.is ∙ append_assoc s (flat_map ended (texts_of x.more)) (flat_map ended (texts_of y.more))
-      ∙ ap (λ v. s ++ v) (sym (lines-append x.more y.more));
-  owed = λ who. ap (λ d. d ++ due_to who names c) (of_client-append who x.more y.more) ∙ append_assoc (of_client who x.more) (of_client who y.more) (due_to who names c)
-      ∙ ap (λ d. of_client who x.more ++ d) (y.owed who) ∙ sym (append_assoc (of_client who x.more) (due_to who names b) (of_client who (e ∷ [])))
-      ∙ ap (λ d. d ++ of_client who (e ∷ [])) (x.handed.owed who);
-}
 
 -- once a lane is whole, what is told of its client's line stands behind all that was owed
 pub whole_then : (names : List (List ℕ)) (old new : List Lane) (c k : ℕ) (what : Told) (n s t u : List ℕ) → AreDistinct names → slice_get names c ≡ Some n → c < length new

@@ -1,28 +1,26 @@
 -- What each line is answered with, and what stands then.
-use Rattle.std.proofs.Common.{◌≡◌, ◌<◌, ℕ, zero, suc, Bool, true, false, List, [], ◌∷◌, ◌++◌, Option, Some, None, Ok, Err, length, take, slice_get, slice_set, refl, sym, ap, ◌∙◌, arith, append-nil, subst, ltb-true}
-use Rattle.std.specs.Prelude.{bytes_eq, nat_lt}
+use Rattle.std.proofs.Common.{◌≡◌, ℕ, zero, suc, Bool, true, false, List, [], ◌∷◌, ◌++◌, Option, Some, None, Ok, Err, length, take, slice_get, slice_set, refl, sym, ap, ◌∙◌, append-nil, subst, if◌then◌else◌}
+use Rattle.std.specs.Prelude.{bytes_eq}
 use Rattle.std.specs.List.{flat_map}
 use Rattle.serde_json.specs.Data.{Data}
-use Rattle.box_core.specs.Mail.{resize_refusal_by, is_no_capacity}
 use Rattle.dmn_plan.specs.ReadModel.{read_model}
 use Rattle.dmn_plan.specs.Request as plan
 use Rattle.dmn_plan.specs.declared.fault.TaskFault.{TaskFault}
 use Rattle.desk_requests.specs.Line.{Line, Model, Request, Close, Resize}
 use Rattle.desk_wire.specs.Words.{task_fault_word}
 use Rattle.desk_lines.specs.Lines.{ended}
-use Rattle.desk_serving.specs.Owed.{Lane, due_to, due_to_name, unhanded, AreBooked, HandsThen, Stands, with_put, with_put_if, with_closed}
+use Rattle.desk_serving.specs.Owed.{Lane, due_to, due_to_name, unhanded, AreBooked, HandsThen, Stands, with_put, with_closed}
 use Rattle.desk_requests.specs.State.{AreDistinct, with_lane, callers, has_lane, in_force, is_closed, requests_under, requests, number_after}
 use Rattle.desk_wire.specs.Reading.{Reading, Blank, Long, Syntax, Shape, Says}
 use Rattle.desk_wire.specs.Reports.{Report, Refused, Of, client_on, report_text}
 use Rattle.desk_wire.specs.declared.report.Told.TheVariants as told
 use Rattle.desk_wire.specs.declared.word.Word.{Word}
 use Rattle.desk_wire.specs.declared.word.Word.TheVariants as word
-use Rattle.desk_serving.specs.Reports.{resize_told}
 use Rattle.desk_serving.specs.Script.{of_client, texts_of}
 use Rattle.desk_requests.specs.Due.{answer, request_answer, task_answer, close_answer, resize_answer, model_answer}
 use Rattle.feel_value.specs.Distinct.{is_among}
 use Rattle.desk_serving.proofs.Owing.{due_to_none, hands_none, hands_then_report, length-unhanded}
-use Rattle.desk_requests.proofs.Names.{same_name, name_itself, among_at}
+use Rattle.desk_requests.proofs.Names.{same_name, name_itself, among_at, set_back}
 use Rattle.desk_serving.proofs.Standing.{booked_same, booked_at, booked-set, due_to_quiet, stands_answered, stands_named}
 use Rattle.desk_requests.proofs.Callers.{requests-other, requests-refused, requests-closed, requests-accepted, quiet}
 
@@ -182,10 +180,9 @@ length-set [] c x = refl
 length-set (y ∷ xs) zero x = refl
 length-set (y ∷ xs) (suc c) x = ap suc (length-set xs c x)
 
-set_same : (lanes : List Lane) (c : ℕ) (lane : Lane) → slice_get lanes c ≡ Some lane → slice_set lanes c lane ≡ lanes
-set_same [] c lane h = cc
-set_same (x ∷ lanes) zero lane h = let is : x ≡ lane = cc in ap (λ y. y ∷ lanes) (sym is)
-set_same (x ∷ lanes) (suc c) lane h = ap (λ t. x ∷ t) (set_same lanes c lane h)
+-- the lane with one more request, unless it is closed
+abbrev pub with_put_if : Lane → plan.Request → Lane
+with_put_if lane request = if lane.closed then lane else with_put lane request
 
 -- the request is put into its lane, unless that is closed
 put_booked : (n s : List ℕ) (i : Data) (earlier : List (Reading Line)) (names : List (List ℕ)) (lanes new : List Lane) (c : ℕ) (lane : Lane) (q : plan.Request) (b : Bool) → AreDistinct names
@@ -193,7 +190,7 @@ put_booked : (n s : List ℕ) (i : Data) (earlier : List (Reading Line)) (names 
     → unhanded new ≡ unhanded (slice_set lanes c (with_put_if lane q)) → AreBooked names new (Says (Request n s i) ∷ earlier)
 put_booked n s i earlier names lanes new c lane q true dis b at la closed good same =
     let book = booked_at names lanes earlier c n lane b at la in
-    let is : unhanded new ≡ unhanded lanes = same ∙ ap unhanded (ap (slice_set lanes c) (rw closed refl) ∙ set_same lanes c lane la) in
+    let is : unhanded new ≡ unhanded lanes = same ∙ ap unhanded (ap (slice_set lanes c) (rw closed refl) ∙ set_back lanes c lane la) in
     let gone : is_closed n earlier ≡ true = sym book.1 ∙ closed in
     booked_same names lanes new earlier (Says (Request n s i) ∷ earlier) is b (λ m among. (closed_requests m n s i earlier (bytes_eq n m) gone refl, refl))
 put_booked n s i earlier names lanes new c lane q false dis b at la closed good same =
@@ -242,27 +239,20 @@ heard_close_no_lane n k earlier names model lanes said text text' st absent num 
     refl st.model (booked_same names lanes lanes earlier (reading ∷ earlier) refl st.booked
     (λ m among. (refl, closed-other m n earlier (apart n m names (bytes_eq n m) refl absent among))))
 
--- the lane is closed, and then its earlier results are handed out
-pub heard_close : (n : List ℕ) (k c : ℕ) (e : Report) (earlier : List (Reading Line)) (names : List (List ℕ)) (model : Option (List ℕ)) (lanes mid new : List Lane) (lane : Lane) (said : List Report) (text text' : List ℕ)
+-- the lane is closed, if it was not, and its earlier results are handed out
+pub heard_close : (n : List ℕ) (k c : ℕ) (e : Report) (earlier : List (Reading Line)) (names : List (List ℕ)) (model : Option (List ℕ)) (lanes new : List Lane) (lane : Lane) (said : List Report) (text text' : List ℕ)
     → Stands (Says (Close n) ∷ earlier) earlier names model lanes said → slice_get names c ≡ Some n → slice_get lanes c ≡ Some lane → k ≡ number_after earlier
-    → e ≡ close_answer k n true lane.closed → mid ≡ slice_set lanes c (with_closed lane) → unhanded new ≡ unhanded mid
-    → ((who : Option (List ℕ)) → due_to who names mid ≡ due_to who names lanes)
-    → HandsThen names mid new e text text' → IsHeard (Says (Close n)) earlier names model new said text text'
-heard_close n k c e earlier names model lanes mid new lane said text text' st at la num v is same owes h =
+    → e ≡ close_answer k n true lane.closed → unhanded new ≡ unhanded (slice_set lanes c (with_closed lane))
+    → HandsThen names lanes new e text text' → IsHeard (Says (Close n)) earlier names model new said text text'
+heard_close n k c e earlier names model lanes new lane said text text' st at la num v same h =
     let reading = Says (Close n) in
     let book = booked_at names lanes earlier c n lane st.booked at la in
     let inside : has_lane (length lanes) (reading ∷ earlier) n ≡ true = ap (λ ns. is_among ns n) (sym st.names) ∙ among_at n names c at in
-    let h' : HandsThen names lanes new e text text' = record {
-      more = h.more;
-      is = h.is;
-      owed = λ who. h.owed who ∙ ap (λ t. t ++ of_client who (e ∷ [])) (owes who);
-    } in
-    let lanes_are : unhanded new ≡ unhanded (slice_set lanes c (with_closed lane)) = same ∙ ap unhanded is in
-    heard reading earlier names model model lanes new said e text text' st h'
+    heard reading earlier names model model lanes new said e text text' st h
     (ap (λ b. close_answer (number_after earlier) n b (is_closed n earlier) ∷ []) inside
     ∙ ap (λ x. x ∷ []) (sym (v ∙ ap (λ j. close_answer j n true lane.closed) num ∙ ap (close_answer (number_after earlier) n true) book.1)))
-    (length-unhanded new (slice_set lanes c (with_closed lane)) lanes_are ∙ length-set lanes c (with_closed lane)) st.model
-    (booked-set names lanes new earlier (reading ∷ earlier) c n (with_closed lane) st.distinct st.booked at lanes_are book.0 (sym (closed-own n earlier))
+    (length-unhanded new (slice_set lanes c (with_closed lane)) same ∙ length-set lanes c (with_closed lane)) st.model
+    (booked-set names lanes new earlier (reading ∷ earlier) c n (with_closed lane) st.distinct st.booked at same book.0 (sym (closed-own n earlier))
     (λ m far. (refl, closed-other m n earlier far)))
 
 -- closing changes nothing of what is owed
@@ -275,6 +265,15 @@ due_to_closed_name m (n ∷ names) (x ∷ lanes) (suc c) lane la = rw (due_to_cl
 pub due_to_closed : (names : List (List ℕ)) (lanes : List Lane) (c : ℕ) (lane : Lane) → slice_get lanes c ≡ Some lane → (who : Option (List ℕ)) → due_to who names (slice_set lanes c (with_closed lane)) ≡ due_to who names lanes
 due_to_closed names lanes c lane la None = refl
 due_to_closed names lanes c lane la (Some m) = due_to_closed_name m names lanes c lane la
+
+-- what is told once the lane is closed stands behind all that was owed before
+pub hands_closed : (names : List (List ℕ)) (lanes shut new : List Lane) (c : ℕ) (lane : Lane) (e : Report) (text text' : List ℕ) → slice_get lanes c ≡ Some lane → shut ≡ slice_set lanes c (with_closed lane)
+    → HandsThen names shut new e text text' → HandsThen names lanes new e text text'
+hands_closed names lanes shut new c lane e text text' la is h = record {
+  more = h.more;
+  is = h.is;
+  owed = λ who. h.owed who ∙ ap (λ t. t ++ of_client who (e ∷ [])) (ap (due_to who names) is ∙ due_to_closed names lanes c lane la who);
+}
 
 -- ## Resizes
 
@@ -294,18 +293,9 @@ heard_resize_no_lane n size k earlier names model lanes said text text' st absen
     ∙ ap (λ j. Of n j (told.Refused word.Clients) ∷ []) (sym num))
     refl st.model (booked_same names lanes lanes earlier (reading ∷ earlier) refl st.booked (λ m among. (refl, refl)))
 
-not_less : (size : ℕ) (b : Bool) → nat_lt size 0 ≡ b → b ≡ false
-not_less size true e = let less : size < 0 = ltb-true size 0 e in absurd (omega (arith, less))
-not_less size false e = refl
-
-resize_by : (k : ℕ) (n : List ℕ) (size : ℕ) (closed none : Bool) → is_no_capacity size ≡ none → Of n k (resize_told size (resize_refusal_by closed 0 0 size)) ≡ resize_answer k n size true closed
-resize_by k n size true none e = refl
-resize_by k n size false true e = rw e refl
-resize_by k n size false false e = rw (e, not_less size (nat_lt size 0) refl) refl
-
 pub heard_resize : (n : List ℕ) (size k c : ℕ) (e : Report) (earlier : List (Reading Line)) (names : List (List ℕ)) (model : Option (List ℕ)) (lanes new : List Lane) (lane : Lane) (said : List Report) (text text' : List ℕ)
     → Stands (Says (Resize n size) ∷ earlier) earlier names model lanes said → slice_get names c ≡ Some n → slice_get lanes c ≡ Some lane → k ≡ number_after earlier
-    → e ≡ Of n k (resize_told size (resize_refusal_by lane.closed 0 0 size)) → unhanded new ≡ unhanded lanes
+    → e ≡ resize_answer k n size true lane.closed → unhanded new ≡ unhanded lanes
     → HandsThen names lanes new e text text' → IsHeard (Says (Resize n size)) earlier names model new said text text'
 heard_resize n size k c e earlier names model lanes new lane said text text' st at la num v same h =
     let reading = Says (Resize n size) in
@@ -313,7 +303,7 @@ heard_resize n size k c e earlier names model lanes new lane said text text' st 
     let inside : has_lane (length lanes) (reading ∷ earlier) n ≡ true = ap (λ ns. is_among ns n) (sym st.names) ∙ among_at n names c at in
     heard reading earlier names model model lanes new said e text text' st h
     (ap (λ b. resize_answer (number_after earlier) n size b (is_closed n earlier) ∷ []) inside
-    ∙ ap (λ x. x ∷ []) (sym (v ∙ resize_by k n size lane.closed (is_no_capacity size) refl ∙ ap (λ j. resize_answer j n size true lane.closed) num
+    ∙ ap (λ x. x ∷ []) (sym (v ∙ ap (λ j. resize_answer j n size true lane.closed) num
     ∙ ap (resize_answer (number_after earlier) n size true) book.1)))
     (length-unhanded new lanes same) st.model
     (booked_same names lanes new earlier (reading ∷ earlier) same st.booked (λ m among. (refl, refl)))

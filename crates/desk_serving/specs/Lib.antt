@@ -1,6 +1,4 @@
-pub mod Tasks
 pub mod Script
-pub mod Reports
 pub mod Owed
 pub mod Submits
 pub mod LanesView

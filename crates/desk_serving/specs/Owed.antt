@@ -1,9 +1,7 @@
 -- Internal but for `Lane`, `lane_in` and `AreBooked`: what the lanes still owe their clients, and what handing it out
 -- keeps.
-use Rattle.std.specs.Prelude.{◌≡◌, ◌+◌, ℕ, Bool, true, false, ◌||◌, nat_le, if◌then◌else◌, List, [], ◌∷◌, ◌++◌, Option, Some, None, length, drop, map, bytes_eq}
-use Rattle.std.specs.Coded.{×_prop, Unit-prop}
+use Rattle.std.specs.Prelude.{◌≡◌, ◌+◌, ℕ, Bool, true, false, if◌then◌else◌, List, [], ◌∷◌, ◌++◌, Option, Some, None, length, drop, map, bytes_eq}
 use Rattle.std.specs.List.{flat_map}
-use Rattle.std.proofs.Props.{props}
 use Rattle.dmn_plan.specs.Request.{Request, request_result}
 use Rattle.feel_value.specs.declared.feel.Outcome.{Outcome}
 use Rattle.lanes.specs.Ends.{ClientEnd, SettledEnd}
@@ -17,7 +15,6 @@ use Rattle.desk_wire.specs.Reports.{Report, Reply}
 use Rattle.desk_serving.specs.Script.{same_client, of_client, texts_of}
 use Rattle.desk_requests.specs.State.{requests, is_closed, names_with_lanes, in_force, AreDistinct}
 use Rattle.desk_requests.specs.Due.{answers}
-use Rattle.feel_value.specs.Distinct.{is_among}
 
 -- a client's lane as the front sees it: the requests that were put, how many results were handed out, and whether it is closed
 pub record Lane : Type 0 where
@@ -116,10 +113,6 @@ pub record Stands (named earlier : List (Reading Line)) (known : List (List ℕ)
 -- the lane with one more request, and one result more handed out
 abbrev pub with_put : Lane → Request → Lane
 with_put lane request = record { put = lane.put ++ request ∷ []; handed = lane.handed; closed = lane.closed }
-
--- the same, unless the lane is closed
-abbrev pub with_put_if : Lane → Request → Lane
-with_put_if lane request = if lane.closed then lane else with_put lane request
 
 abbrev pub with_handed : Lane → Lane
 with_handed lane = record { put = lane.put; handed = lane.handed + 1; closed = lane.closed }

@@ -1,12 +1,11 @@
 -- Internal, cited by no public contract: what putting a request makes of a lane.
-use Rattle.std.specs.Prelude.{◌≡◌, true, false}
+use Rattle.std.specs.Prelude.{◌≡◌}
 use Rattle.std.specs.Arc.{arc_value}
 use Rattle.dmn_plan.specs.Request.{Request}
 use Rattle.desk_serving.specs.Owed.{Lane, with_put}
 use Rattle.desk_serving.specs.declared.named_lanes.Submitted.{Submitted}
-use Rattle.desk_serving.specs.declared.named_lanes.Submitted.TheVariants.{Accepted, Closed, Full}
+use Rattle.desk_serving.specs.declared.named_lanes.Submitted.TheVariants.{Accepted, Full}
 
 abbrev pub Submits : {C : Type 0} → Lane → Request → Submitted C → Lane → Type 0
-Submits old request Accepted new = (old.closed ≡ false) × (new ≡ with_put old request)
-Submits old request Closed new = (old.closed ≡ true) × (new ≡ old)
+Submits old request Accepted new = new ≡ with_put old request
 Submits old request (Full work) new = (arc_value work ≡ request) × (new ≡ old)

@@ -1,27 +1,25 @@
 //! Each line is answered, or put into its client's lane.
-ghost use Rattle.std.specs.Prelude.{◌≡◌, ◌<◌, ◌^◌, ℕ, List, false, length, IfOk, IfSome, OnOk};
-ghost use Rattle.serde_json.specs.Data.{Data};
-ghost use Rattle.serde_json.specs.View.{view};
-ghost use Rattle.desk_requests.specs.Line.{Model, Request, Close, Resize};
-ghost use Rattle.desk_requests.specs.LineView.{line_view};
-ghost use Rattle.desk_serving.specs.LanesView.{links_in};
-ghost use Rattle.desk_wire.specs.Reading.{Says};
-ghost use Rattle.desk_requests.specs.LineHeard.{IsLineOf};
+ghost use Rattle.std.specs.Prelude.{◌≡◌, ◌<◌, ◌^◌, ℕ, List, Some, false, slice_get, slice_set, length, IfOk, OnOk};
+ghost use Rattle.std.specs.Arc.{arc_value};
+ghost use Rattle.box_core.specs.Mail.{is_no_capacity};
+ghost use Rattle.dmn_plan.specs.Request.{request_result};
 ghost use Rattle.desk_wire.specs.Heard.{IsHeardAs};
-ghost use Rattle.desk_serving.specs.Tasks.{IsTaskFor, IsTaskOf};
-ghost use Rattle.desk_serving.specs.StateView.{HasRoom, Hears, HearsText, model_of};
+ghost use Rattle.desk_wire.specs.Reports as reports;
+ghost use Rattle.desk_wire.specs.declared.report.Told.TheVariants as told;
+ghost use Rattle.desk_serving.specs.LanesView.{lanes_in, links_in};
+ghost use Rattle.desk_serving.specs.Owed.{Lane, with_closed, with_put};
+ghost use Rattle.desk_serving.specs.StateView.{CanBeDone, HasRoom, HearsText, IsAnswered, IsDueToHeard, IsSeat, Settles, model_of};
 
-use crate::reports::{close_told, resize_told};
+use crate::deciding::DueHere;
 use crate::state::State;
 use crate::until::Until;
 use crate::waiting::hand_out_until;
 use desk_lines::{Clerk, FrontFault, LineText, Sink, Unwritten};
-use desk_requests::{Line, line_heard};
+use desk_requests::{Due, Seat, decide, line_heard};
 use desk_wire::{Heard, Report, Told, Word, add_refusal, hear};
-use dmn_plan::{MarkedPlan, ModelFault, Plan, Task, TaskFault};
+use dmn_plan::Task;
 use json_reader::JsonReader;
 use model_marks::Catalog;
-use serde_json::Value;
 use std::alloc::{AllocError, Global};
 use std::mem;
 use std::sync::{Arc, Wait};
@@ -37,88 +35,35 @@ fn takes_long(line: &LineText) -> bool {
     }
 }
 
+/// What has to come before what is due can be done at once.
+fn until_of<C: Catalog>(due: &Option<DueHere<'_, C>>) -> Until {
+    match due {
+        Some(Due::Asked(_, _, seat, _)) => Until::Room(seat.place),
+        Some(Due::Refused(_, seat, _)) => Until::Whole(seat.place),
+        Some(Due::Closed(_, seat)) => Until::Whole(seat.place),
+        Some(Due::Resized(_, seat, _)) => Until::Whole(seat.place),
+        _ => Until::Now,
+    }
+}
+
 impl<'a, C: Catalog, R: Wait> State<'a, C, R> {
-    /// The model on a line is in force from the next line on, or its fault is told.
-    fn answer_model(
+    /// What is due to a line that is heard so; nothing where it has none of the forms.
+    fn due_to<'b>(
         &mut self,
         alloc: Global,
         number: u64,
-        model: &Value,
-        text: &mut Vec<u8>,
-    ) -> Result<(), AllocError>
+        heard: &'b Heard<'_>,
+    ) -> Result<Option<DueHere<'b, C>>, AllocError>
         ensures same { links_in self.new.lanes ≡ links_in self.old.lanes }
-        ensures hears { OnOk result (Hears self.old number (Says (Model (view model.now))) text.old.items text.new.items self.new) }
+        ensures lanes { OnOk result (self.new.lanes ≡ self.old.lanes) }
+        ensures model { OnOk result (model_of self.new ≡ model_of self.old) }
+        ensures due { IfOk result (λ due. IsDueToHeard self.new number heard.now due) }
     {
-        match Plan::of(alloc, model) {
-            Ok(plan) => {
-                self.plan = Some(MarkedPlan::of(alloc, &mut self.marks, plan)?);
-                Report::Loaded(number).add_to(alloc, text)
-            }
-            Err(fault) => match fault {
-                ModelFault::Memory => Err(AllocError),
-                fault => Report::Faulty(number, Word::of_fault(fault)).add_to(alloc, text),
-            },
-        }
-    }
-
-    /// The task of a service with these inputs, or why there is none; nothing where no model is in force.
-    fn task_of(
-        &self,
-        alloc: Global,
-        service: &str,
-        inputs: &Value,
-    ) -> Result<Option<Result<Arc<Task<C>>, TaskFault>>, AllocError>
-        ensures { IfOk result (λ task. IsTaskOf (model_of self.now) service.now (view inputs.now) task) }
-    {
-        let Some(plan) = &self.plan else {
+        let Some(says) = line_heard(heard) else {
             return Ok(None);
         };
-        match plan.task(alloc, service, inputs) {
-            Ok(task) => {
-                let work = Arc::new(alloc, task)?;
-                Ok(Some(Ok(work)))
-            }
-            Err(fault) => match fault {
-                TaskFault::Memory => Err(AllocError),
-                fault => Ok(Some(Err(fault))),
-            },
-        }
-    }
-
-    /// The task of a request; nothing of another line.
-    fn task_for(
-        &self,
-        alloc: Global,
-        says: &Option<Line<'_>>,
-    ) -> Result<Option<Result<Arc<Task<C>>, TaskFault>>, AllocError>
-        ensures { IfOk result (λ task. IfSome says.now (λ line. IsTaskFor (model_of self.now) line task)) }
-    {
-        let Some(says) = says else {
-            return Ok(None);
-        };
-        match says {
-            Line::Request(_, service, inputs) => self.task_of(alloc, service, inputs),
-            Line::Model(_) => Ok(None),
-            Line::Close(_) => Ok(None),
-            Line::Resize(_, _) => Ok(None),
-        }
-    }
-
-    /// What has to come before a line can be answered at once.
-    fn turn_of(
-        &self,
-        says: &Option<Line<'_>>,
-        task: &Option<Result<Arc<Task<C>>, TaskFault>>,
-    ) -> Until {
-        match says {
-            Some(Line::Request(name, _, _)) => match task {
-                Some(Ok(_)) => self.lanes.until_room(name),
-                _ => self.lanes.until_whole(name),
-            },
-            Some(Line::Close(name)) => self.lanes.until_whole(name),
-            Some(Line::Resize(name, _)) => self.lanes.until_whole(name),
-            _ => Until::Now,
-        }
+        let due = decide(alloc, self, number, &says)?;
+        Ok(Some(due))
     }
 
     /// Has workers woken while a line is read: for what waits, where reading takes long; or one for the request that the line may
@@ -140,122 +85,134 @@ impl<'a, C: Catalog, R: Wait> State<'a, C, R> {
         }
     }
 
-    /// A client's request is put into its lane, or the first refusal that applies is told behind the client's earlier results.
-    fn answer_request(
+    /// Puts a request into its client's lane.
+    fn put(
         &mut self,
         alloc: Global,
-        number: u64,
         name: &str,
-        task: Option<Result<Arc<Task<C>>, TaskFault>>,
+        seat: Seat,
+        work: Arc<Task<C>>,
         text: &mut Vec<u8>,
     ) -> Result<(), AllocError>
         requires few { HasRoom self.old }
+        requires seat { IsSeat self.old name.now (Some seat) }
+        requires yet { seat.is_closed ≡ false }
         ensures same { links_in self.new.lanes ≡ links_in self.old.lanes }
-        ensures hears { OnOk result ((service : List ℕ) (inputs : Data) → IsTaskOf (model_of self.old) service inputs task →
-            Hears self.old number (Says (Request name.now service inputs)) text.old.items text.new.items self.new) }
+        ensures answers { OnOk result ((lane : Lane) → slice_get (lanes_in self.old.lanes) seat.place ≡ Some lane →
+            IsAnswered self.old name.now (slice_set (lanes_in self.old.lanes) seat.place (with_put lane (arc_value work)))
+            (reports.Reply name.now (length lane.put) (request_result (arc_value work))) text.old.items text.new.items self.new) }
     {
-        let Some(task) = task else {
-            return Report::Of(name, number, Told::Refused(Word::Model)).add_to(alloc, text);
-        };
-        let Some(place) = self.lanes.place_for(alloc, name)? else {
-            return Report::Of(name, number, Told::Refused(Word::Clients)).add_to(alloc, text);
-        };
-        match task {
-            Ok(work) => self
-                .lanes
-                .put_or_refuse(self.rt, alloc, number, name, place, work, text),
-            Err(fault) => {
-                let told = Told::Refused(Word::of_task_fault(fault));
-                self.lanes
-                    .report(self.rt, alloc, number, name, place, told, text)
-            }
-        }
+        self.lanes.name_at(alloc, seat.place, name)?;
+        self.lanes.put(self.rt, alloc, seat.place, work, text)
     }
 
-    /// A client's lane is closed behind its earlier results, or the first refusal that applies is told there.
-    fn answer_close(
+    /// Refuses a client's line behind the client's earlier results.
+    fn refuse(
         &mut self,
         alloc: Global,
         number: u64,
         name: &str,
+        seat: Seat,
+        why: Word,
         text: &mut Vec<u8>,
     ) -> Result<(), AllocError>
+        requires seat { IsSeat self.old name.now (Some seat) }
         ensures same { links_in self.new.lanes ≡ links_in self.old.lanes }
-        ensures hears { OnOk result (Hears self.old number (Says (Close name.now)) text.old.items text.new.items self.new) }
+        ensures answers { OnOk result (IsAnswered self.old name.now (lanes_in self.old.lanes) (reports.Of name.now number (told.Refused why)) text.old.items text.new.items self.new) }
     {
-        let Some(place) = self.lanes.place_for(alloc, name)? else {
-            return Report::Of(name, number, Told::Refused(Word::Clients)).add_to(alloc, text);
-        };
-        let told = close_told(self.lanes.close(place));
+        self.lanes.name_at(alloc, seat.place, name)?;
+        let told = Told::Refused(why);
         self.lanes
-            .report(self.rt, alloc, number, name, place, told, text)
+            .report(self.rt, alloc, number, name, seat.place, told, text)
     }
 
-    /// A client's lane is given a capacity behind its earlier results, or the first refusal that applies is told there. As no
-    /// request is outstanding then, none is too many.
-    fn answer_resize(
+    /// Closes a client's lane, and tells so behind the client's earlier results.
+    fn close(
         &mut self,
         alloc: Global,
         number: u64,
         name: &str,
+        seat: Seat,
+        text: &mut Vec<u8>,
+    ) -> Result<(), AllocError>
+        requires seat { IsSeat self.old name.now (Some seat) }
+        ensures same { links_in self.new.lanes ≡ links_in self.old.lanes }
+        ensures answers { OnOk result ((lane : Lane) → slice_get (lanes_in self.old.lanes) seat.place ≡ Some lane →
+            IsAnswered self.old name.now (slice_set (lanes_in self.old.lanes) seat.place (with_closed lane)) (reports.Of name.now number told.Closed) text.old.items text.new.items self.new) }
+    {
+        self.lanes.name_at(alloc, seat.place, name)?;
+        self.lanes.close(seat.place);
+        self.lanes.report(self.rt, alloc, number, name, seat.place, Told::Closed, text)
+    }
+
+    /// Gives a client's lane a capacity behind the client's earlier results. As no request is outstanding then, none is too many.
+    fn resize(
+        &mut self,
+        alloc: Global,
+        number: u64,
+        name: &str,
+        seat: Seat,
         capacity: u32,
         text: &mut Vec<u8>,
     ) -> Result<(), AllocError>
+        requires seat { IsSeat self.old name.now (Some seat) }
+        requires yet { seat.is_closed ≡ false }
+        requires capacity { is_no_capacity capacity ≡ false }
         ensures same { links_in self.new.lanes ≡ links_in self.old.lanes }
-        ensures hears { OnOk result (Hears self.old number (Says (Resize name.now capacity)) text.old.items text.new.items self.new) }
+        ensures answers { OnOk result (IsAnswered self.old name.now (lanes_in self.old.lanes) (reports.Of name.now number (told.Resized capacity)) text.old.items text.new.items self.new) }
     {
-        let Some(place) = self.lanes.place_for(alloc, name)? else {
-            return Report::Of(name, number, Told::Refused(Word::Clients)).add_to(alloc, text);
-        };
-        self.lanes.drain(self.rt, alloc, place, text)?;
-        let why = self.lanes.resize(place, capacity)?;
-        Report::Of(name, number, resize_told(capacity, why)).add_to(alloc, text)
+        self.lanes.name_at(alloc, seat.place, name)?;
+        self.lanes.drain(self.rt, alloc, seat.place, text)?;
+        self.lanes.resize(seat.place, capacity)?;
+        Report::Of(name, number, Told::Resized(capacity)).add_to(alloc, text)
     }
 
-    /// Answers a line of one of the forms, with its task where it is a request.
-    fn answer_line(
+    /// Does what is due to a line.
+    fn settle(
         &mut self,
         alloc: Global,
         number: u64,
-        says: &Line<'_>,
-        task: Option<Result<Arc<Task<C>>, TaskFault>>,
+        due: DueHere<'_, C>,
         text: &mut Vec<u8>,
     ) -> Result<(), AllocError>
         requires few { HasRoom self.old }
-        requires task { IsTaskFor (model_of self.old) says.now task }
+        requires can { CanBeDone self.old due }
         ensures same { links_in self.new.lanes ≡ links_in self.old.lanes }
-        ensures hears { OnOk result (Hears self.old number (Says (line_view says.now)) text.old.items text.new.items self.new) }
+        ensures settles { OnOk result (Settles number due.entry self.old text.old.items text.new.items self.new) }
     {
-        match says {
-            Line::Model(model) => self.answer_model(alloc, number, model, text),
-            Line::Request(name, _, _) => self.answer_request(alloc, number, name, task, text),
-            Line::Close(name) => self.answer_close(alloc, number, name, text),
-            Line::Resize(name, capacity) => {
-                self.answer_resize(alloc, number, name, *capacity, text)
+        match due {
+            Due::Loaded(plan) => {
+                self.plan = Some(plan);
+                Report::Loaded(number).add_to(alloc, text)
+            }
+            Due::Told(report) => report.add_to(alloc, text),
+            Due::Refused(name, seat, why) => self.refuse(alloc, number, name, seat, why, text),
+            Due::Asked(name, _, seat, work) => self.put(alloc, name, seat, work, text),
+            Due::Closed(name, seat) => self.close(alloc, number, name, seat, text),
+            Due::Resized(name, seat, capacity) => {
+                self.resize(alloc, number, name, seat, capacity, text)
             }
         }
     }
 
-    /// Answers a line that is heard so and says this: nothing is said to one that is blank.
-    fn answer_heard(
+    /// Does what is due to a line that is heard so, or refuses it: nothing is said to one that is blank.
+    fn settle_heard(
         &mut self,
         alloc: Global,
         number: u64,
         heard: &Heard<'_>,
-        says: &Option<Line<'_>>,
-        task: Option<Result<Arc<Task<C>>, TaskFault>>,
+        due: Option<DueHere<'_, C>>,
         text: &mut Vec<u8>,
     ) -> Result<(), AllocError>
         requires few { HasRoom self.old }
-        requires says { IsLineOf heard.now says.now }
-        requires task { IfSome says.now (λ line. IsTaskFor (model_of self.old) line task) }
+        requires due { IsDueToHeard self.old number heard.now due }
         ensures same { links_in self.new.lanes ≡ links_in self.old.lanes }
         ensures hears { OnOk result ((it : List ℕ) → IsHeardAs it heard.now → HearsText self.old number it text.old.items text.new.items self.new) }
     {
-        let Some(says) = says else {
+        let Some(due) = due else {
             return add_refusal(alloc, number, heard, text);
         };
-        self.answer_line(alloc, number, says, task, text)
+        self.settle(alloc, number, due, text)
     }
 }
 
@@ -297,13 +254,12 @@ impl<'a, C: Catalog, R: Wait> Clerk for State<'a, C, R> {
         let mut texts = mem::replace(&mut self.texts, JsonReader::new());
         let text = {
             let heard = hear(alloc, &mut texts, line)?;
-            let says = line_heard(&heard);
-            let task = self.task_for(alloc, &says)?;
-            let until = self.turn_of(&says, &task);
+            let due = self.due_to(alloc, number, &heard)?;
+            let until = until_of(&due);
             hand_out_until(self.rt, alloc, &mut self.lanes, until, writer, unwritten)?;
             let mut text = Vec::new(alloc);
             self.lanes.hand_out_some(alloc, until, &mut text)?;
-            self.answer_heard(alloc, number, &heard, &says, task, &mut text)?;
+            self.settle_heard(alloc, number, &heard, due, &mut text)?;
             text
         };
         self.texts = texts;

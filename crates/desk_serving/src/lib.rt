@@ -3,11 +3,11 @@
 #![tactic(auto)]
 
 mod answering;
+mod deciding;
 mod ending;
 mod laws;
 mod named_lanes;
 mod options;
-mod reports;
 mod resting;
 mod run;
 mod state;

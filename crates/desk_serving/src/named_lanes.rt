@@ -1,19 +1,18 @@
 //! The clients' lanes and their names.
-ghost use Rattle.std.specs.Bool.{OnFalse, OnTrue};
-ghost use Rattle.std.specs.Prelude.{◌≡◌, ◌<◌, ◌≤◌, ◌^◌, [], ℕ, List, drop, false, length, map, not, slice_get, slice_set, string_bytes, IfNone, IfOk, IfSome, Ok, OnOk, Some};
+ghost use Rattle.std.specs.Prelude.{◌≡◌, ◌<◌, ◌≤◌, ◌^◌, [], ℕ, List, drop, false, length, map, slice_get, slice_set, string_bytes, IfNone, IfOk, IfSome, OnOk, Some};
 ghost use Rattle.std.specs.Arc.{arc_value};
-ghost use Rattle.box_core.specs.Mail.{resize_refusal_by};
+ghost use Rattle.box_core.specs.Mail.{is_no_capacity};
 ghost use Rattle.dmn_plan.specs.Request.{request_result};
 ghost use Rattle.lanes.specs.Clients.{client_links};
-ghost use Rattle.desk_serving.specs.Owed.{Hands, HandsOwn, HandsThen, Lane, lane_of, unhanded, with_closed, with_put, with_put_if};
+ghost use Rattle.desk_serving.specs.Owed.{Hands, HandsOwn, HandsThen, Lane, lane_of, unhanded, with_closed, with_put};
 ghost use Rattle.desk_requests.specs.State.{AreDistinct, AreDistinct-prop, with_lane};
-ghost use Rattle.desk_requests.specs.Due.{task_answer};
 ghost use Rattle.feel_value.specs.Distinct.{is_among};
 ghost use Rattle.desk_wire.specs.Reports.{Of, Reply};
 
 use crate::until::Until;
 use box_core::Refusal;
-use desk_wire::{Report, Told, Word};
+use desk_requests::Seat;
+use desk_wire::{Report, Told};
 use dmn_plan::Task;
 use lanes::{Client, MOST_CLIENTS};
 use model_marks::Catalog;
@@ -28,8 +27,6 @@ const MOST: usize = MOST_CLIENTS as usize;
 pub enum Submitted<C: Catalog> {
     /// It was accepted.
     Accepted,
-    /// The lane is closed.
-    Closed,
     /// There is no place for it, and it comes back.
     Full(Arc<Task<C>>),
 }
@@ -52,15 +49,15 @@ impl<C: Catalog> Lanes<C> {
     ghost use Rattle.desk_serving.specs.LanesView.{IsPolled};
     ghost use Rattle.desk_serving.specs.Submits.{Submits};
 
-    /// Puts a request.
+    /// Puts a request into a lane that is open.
     fn submit(client: &mut Client<Task<C>>, work: Arc<Task<C>>) -> Result<Submitted<C>, AllocError>
         requires few { length (lane_of client.old).put < 2 ^ 60 }
+        requires open { (lane_of client.old).closed ≡ false }
         ensures same { client_links client.new ≡ client_links client.old }
         ensures submits { IfOk result (λ submitted. Submits (lane_of client.old) (arc_value work) submitted (lane_of client.new)) }
     {
         match client.submit(work) {
             Ok(_) => Ok(Submitted::Accepted),
-            Err((Refusal::Closed, _)) => Ok(Submitted::Closed),
             Err((Refusal::Full, work)) => Ok(Submitted::Full(work)),
             Err((Refusal::Memory, _)) => Err(AllocError),
             Err(_) => unreachable!(),
@@ -89,7 +86,7 @@ impl<C: Catalog> Lanes<C> {
 }
 
 impl<C: Catalog> Lanes<C> {
-    ghost use Rattle.desk_serving.specs.LanesView.{ArePolled, lanes_in, links_in, names_in};
+    ghost use Rattle.desk_serving.specs.LanesView.{ArePolled, IsSeatIn, lanes_in, links_in, names_in};
 
     /// Lanes of this capacity without a name.
     pub fn new(alloc: Global, clients: Vec<Client<Task<C>>>, capacity: u32) -> Lanes<C>
@@ -116,23 +113,44 @@ impl<C: Catalog> Lanes<C> {
         None
     }
 
-    /// The place of a name's lane. A name without one gets the next, if one is left.
-    pub fn place_for(&mut self, alloc: Global, name: &str) -> Result<Option<usize>, AllocError>
-        ensures same { links_in self.new ≡ links_in self.old }
-        ensures lanes { lanes_in self.new ≡ lanes_in self.old }
-        ensures names { OnOk result (names_in self.new ≡ with_lane (length (lanes_in self.old)) name.now (names_in self.old)) }
-        ensures found { IfOk result (λ place. IfSome place (λ place. slice_get (names_in self.new) place ≡ Some name.now)) }
-        ensures none { IfOk result (λ place. IfNone place (is_among (names_in self.new) name.now ≡ false)) }
+    /// The lane at a place.
+    fn seat_at(&self, place: usize) -> Seat
+        requires { place < length (lanes_in self.now) }
+        ensures place { result.place ≡ place }
+        ensures closed { (lane : Lane) → slice_get (lanes_in self.now) place ≡ Some lane → result.is_closed ≡ lane.closed }
+    {
+        Seat {
+            place,
+            is_closed: self.clients[place].is_closed(),
+        }
+    }
+
+    /// The lane that a name has, or gets once it has one: none where all lanes have other names.
+    pub fn seat(&self, name: &str) -> Option<Seat>
+        ensures { IsSeatIn self.now name.now result }
     {
         if let Some(place) = self.place_of(name) {
-            return Ok(Some(place));
+            return Some(self.seat_at(place));
         }
         let place = self.names.len();
         if place >= self.clients.len() {
-            return Ok(None);
+            return None;
+        }
+        Some(self.seat_at(place))
+    }
+
+    /// Gives a name the lane that it has, or that is next.
+    pub fn name_at(&mut self, alloc: Global, place: usize, name: &str) -> Result<(), AllocError>
+        requires { slice_get (with_lane (length (lanes_in self.old)) name.now (names_in self.old)) place ≡ Some name.now }
+        ensures same { links_in self.new ≡ links_in self.old }
+        ensures lanes { lanes_in self.new ≡ lanes_in self.old }
+        ensures names { OnOk result (names_in self.new ≡ with_lane (length (lanes_in self.old)) name.now (names_in self.old)) }
+    {
+        if place < self.names.len() {
+            return Ok(());
         }
         self.names.push(String::from_str(alloc, name)?)?;
-        Ok(Some(place))
+        Ok(())
     }
 
     /// Hands out at most one result from each lane, in lines at the end of the text.
@@ -275,8 +293,8 @@ impl<C: Catalog> Lanes<C> {
         Report::Of(name, number, told).add_to(alloc, text)
     }
 
-    /// Puts a request into a lane, once there is a place for it. Answers false where the lane is closed. Until then results
-    /// are handed out, in lines at the end of the text. As a line is answered only once there is a place, this never waits.
+    /// Puts a request into a lane that is open, once there is a place for it. Until then results are handed out, in lines at the end
+    /// of the text. As a line is answered only once there is a place, this never waits.
     pub fn put<R: Wait>(
         &mut self,
         rt: &R,
@@ -284,23 +302,21 @@ impl<C: Catalog> Lanes<C> {
         place: usize,
         work: Arc<Task<C>>,
         text: &mut Vec<u8>,
-    ) -> Result<bool, AllocError>
+    ) -> Result<(), AllocError>
         requires place { place < length (names_in self.old) }
         requires few { (lane : Lane) → slice_get (lanes_in self.old) place ≡ Some lane → length lane.put < 2 ^ 60 }
+        requires open { (lane : Lane) → slice_get (lanes_in self.old) place ≡ Some lane → lane.closed ≡ false }
         ensures same { links_in self.new ≡ links_in self.old }
         ensures names { names_in self.new ≡ names_in self.old }
-        ensures open { IfOk result (λ put. (lane : Lane) → slice_get (lanes_in self.old) place ≡ Some lane → lane.closed ≡ not put) }
-        ensures lanes { IfOk result (λ put. OnTrue put ((lane : Lane) → slice_get (lanes_in self.old) place ≡ Some lane →
-            unhanded (lanes_in self.new) ≡ unhanded (slice_set (lanes_in self.old) place (with_put lane (arc_value work))))) }
-        ensures put { IfOk result (λ put. OnTrue put ((name : List ℕ) (lane : Lane) → slice_get (names_in self.old) place ≡ Some name → slice_get (lanes_in self.old) place ≡ Some lane →
-            HandsThen (names_in self.old) (lanes_in self.old) (lanes_in self.new) (Reply name (length lane.put) (request_result (arc_value work))) text.old.items text.new.items)) }
-        ensures closed { IfOk result (λ put. OnFalse put (Hands (names_in self.old) (lanes_in self.old) (lanes_in self.new) text.old.items text.new.items)) }
+        ensures lanes { OnOk result ((lane : Lane) → slice_get (lanes_in self.old) place ≡ Some lane →
+            unhanded (lanes_in self.new) ≡ unhanded (slice_set (lanes_in self.old) place (with_put lane (arc_value work)))) }
+        ensures put { OnOk result ((name : List ℕ) (lane : Lane) → slice_get (names_in self.old) place ≡ Some name → slice_get (lanes_in self.old) place ≡ Some lane →
+            HandsThen (names_in self.old) (lanes_in self.old) (lanes_in self.new) (Reply name (length lane.put) (request_result (arc_value work))) text.old.items text.new.items) }
     {
         let mut work = work;
         for _ in rt.forever() {
             match Lanes::submit(&mut self.clients[place], work)? {
-                Submitted::Accepted => return Ok(true),
-                Submitted::Closed => return Ok(false),
+                Submitted::Accepted => return Ok(()),
                 Submitted::Full(refused) => work = refused,
             }
             let seen = self.answers();
@@ -311,62 +327,35 @@ impl<C: Catalog> Lanes<C> {
         unreachable!()
     }
 
-    /// Puts a request into a lane, or refuses it behind the client's earlier results where the lane is closed.
-    pub fn put_or_refuse<R: Wait>(
-        &mut self,
-        rt: &R,
-        alloc: Global,
-        number: u64,
-        name: &str,
-        place: usize,
-        work: Arc<Task<C>>,
-        text: &mut Vec<u8>,
-    ) -> Result<(), AllocError>
-        requires place { slice_get (names_in self.old) place ≡ Some name.now }
-        requires few { (lane : Lane) → slice_get (lanes_in self.old) place ≡ Some lane → length lane.put < 2 ^ 60 }
-        ensures same { links_in self.new ≡ links_in self.old }
-        ensures names { names_in self.new ≡ names_in self.old }
-        ensures lanes { OnOk result ((lane : Lane) → slice_get (lanes_in self.old) place ≡ Some lane →
-            unhanded (lanes_in self.new) ≡ unhanded (slice_set (lanes_in self.old) place (with_put_if lane (arc_value work)))) }
-        ensures hands { OnOk result ((lane : Lane) → slice_get (lanes_in self.old) place ≡ Some lane →
-            HandsThen (names_in self.old) (lanes_in self.old) (lanes_in self.new) (task_answer number name.now lane.closed (length lane.put) (Ok (arc_value work))) text.old.items text.new.items) }
-    {
-        if self.put(rt, alloc, place, work, text)? {
-            return Ok(());
-        }
-        let told = Told::Refused(Word::Closed);
-        self.report(rt, alloc, number, name, place, told, text)
-    }
-
-    /// Closes a lane, and answers whether it was open.
-    pub fn close(&mut self, place: usize) -> bool
+    /// Closes a lane.
+    pub fn close(&mut self, place: usize)
         requires place { place < length (names_in self.old) }
         ensures same { links_in self.new ≡ links_in self.old }
         ensures names { names_in self.new ≡ names_in self.old }
-        ensures closes { (lane : Lane) → slice_get (lanes_in self.old) place ≡ Some lane →
-            (result ≡ not lane.closed) × (lanes_in self.new ≡ slice_set (lanes_in self.old) place (with_closed lane)) }
+        ensures closes { (lane : Lane) → slice_get (lanes_in self.old) place ≡ Some lane → lanes_in self.new ≡ slice_set (lanes_in self.old) place (with_closed lane) }
     {
-        let was_open = self.clients[place].close();
+        self.clients[place].close();
         self.set_room(place, 0);
-        was_open
     }
 
-    /// Gives a whole lane a capacity, or says why not.
-    pub fn resize(&mut self, place: usize, capacity: u32) -> Result<Option<Refusal>, AllocError>
+    /// Gives a whole open lane a capacity.
+    pub fn resize(&mut self, place: usize, capacity: u32) -> Result<(), AllocError>
         requires place { place < length (names_in self.old) }
-        requires whole { (lane : Lane) → slice_get (lanes_in self.old) place ≡ Some lane → drop lane.handed lane.put ≡ [] }
+        requires whole { (lane : Lane) → slice_get (lanes_in self.old) place ≡ Some lane → (drop lane.handed lane.put ≡ []) × (lane.closed ≡ false) }
+        requires capacity { is_no_capacity capacity ≡ false }
         ensures same { links_in self.new ≡ links_in self.old }
         ensures names { names_in self.new ≡ names_in self.old }
         ensures lanes { lanes_in self.new ≡ lanes_in self.old }
-        ensures refused { IfOk result (λ refused. (lane : Lane) → slice_get (lanes_in self.old) place ≡ Some lane → refused ≡ resize_refusal_by lane.closed 0 0 capacity) }
     {
-        let Err(why) = self.clients[place].resize(capacity) else {
-            self.set_room(place, capacity);
-            return Ok(None);
-        };
-        match why {
-            Refusal::Memory => Err(AllocError),
-            why => Ok(Some(why)),
+        match self.clients[place].resize(capacity) {
+            Ok(()) => {
+                self.set_room(place, capacity);
+                Ok(())
+            }
+            Err(why) => match why {
+                Refusal::Memory => Err(AllocError),
+                _ => unreachable!(),
+            },
         }
     }
 }

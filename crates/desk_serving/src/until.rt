@@ -28,22 +28,6 @@ impl Until {
 }
 
 impl<C: Catalog> Lanes<C> {
-    /// What has to come before a request of this name finds a place.
-    pub fn until_room(&self, name: &str) -> Until {
-        match self.place_of(name) {
-            Some(place) => Until::Room(place),
-            None => Until::Now,
-        }
-    }
-
-    /// What has to come before all earlier results of this name are handed out.
-    pub fn until_whole(&self, name: &str) -> Until {
-        match self.place_of(name) {
-            Some(place) => Until::Whole(place),
-            None => Until::Now,
-        }
-    }
-
     /// Whether it has come.
     pub fn has_come(&self, until: Until) -> bool {
         match until {

@@ -1,5 +1,5 @@
 -- What a search has found, as it is told of a table.
-use Rattle.std.proofs.Common.{◌≡◌, ◌∙◌, sym, ap, subst, ℕ, ◌<◌, ◌⊎◌, inl, inr, List, [], length, map, true, false, IsTrue, Some, None, arith}
+use Rattle.std.proofs.Common.{◌≡◌, ◌∙◌, sym, ap, subst, ℕ, ◌<◌, ◌⊎◌, inl, inr, List, [], ◌∷◌, ◌++◌, length, map, refl, true, false, IsTrue, Some, None, arith}
 use Rattle.std.specs.List.{slice_get, All}
 use Rattle.std.proofs.lemmas.List.Elements.{All-weaker}
 use Rattle.std.proofs.lemmas.Option.{same_Some, slice_get_past, slice_get_within}
@@ -9,7 +9,7 @@ use Rattle.feel_text.specs.Meaning.{Bindings}
 use Rattle.dmn_table.specs.Hits.{does_hit}
 use Rattle.dmn_table.specs.Table.{Rule, Table}
 use Rattle.dmn_analysis.specs.Cells.{AllInOrder, AreIn}
-use Rattle.dmn_analysis.specs.Claims.{AreAsked, AreInputs, GoesBefore, HasHit, IsGapIn, IsInGap, IsMaskedAmong, NeverHits, NeverTwo, TellsGap, TellsGaps}
+use Rattle.dmn_analysis.specs.Claims.{AreAsked, AreInputs, GoesBefore, HasHit, IsGapIn, IsInGap, IsMaskedAmong, KeepLimits, NeverHits, NeverTwo, TellsGap, TellsGaps}
 use Rattle.dmn_analysis.specs.Constant.{AreConstant, is_constant}
 use Rattle.dmn_analysis.specs.Joining.{AreCovered, AreMissed}
 use Rattle.dmn_analysis.specs.Searching.{CannotHit, IsAmong, IsBare, IsInSome, Knows, Scene, cells_of}
@@ -28,6 +28,11 @@ use Rattle.dmn_analysis.proofs.HitRules.{mapped}
 use Rattle.dmn_analysis.proofs.Constants.{misses}
 use Rattle.dmn_analysis.proofs.Places.{All-at, All-from_places}
 
+-- two lists of which nothing is left
+pub both_empty : (xs ys : List ℕ) → xs ++ ys ≡ [] → (xs ≡ []) × (ys ≡ [])
+both_empty [] ys e = (refl, e)
+both_empty (x ∷ xs) ys e = cc
+
 nowhere : (words : List Words) (values : List Datum) → IsInSome words [] values → ⊥
 nowhere words values h = let e : None ≡ Some h.cells = h.there in cc
 
@@ -43,18 +48,21 @@ pub tells_gaps : (t : Table) (asked : List Asked) (cells : List Cell) (first : L
     → ((r : ℕ) → r < length t.rules → IsAmong first r) → Knows (record { words = gaps.words.items; rules = t.rules; chosen = length t.rules; first = first; whole = cells }) search
     → All (IsToldGap (record { words = gaps.words.items; rules = t.rules; chosen = length t.rules; first = first; whole = cells }) (length t.inputs)) gaps.found.items
     → (IsTrue gaps.is_all → gaps.more ≡ 0 → All (λ (b : Bare). (values : List Datum) → length values ≡ length cells → All (λ v. is_value v ≡ true) values → AreIn gaps.words.items b.cells.items values → IsInGap gaps.words.items gaps.found.items values) search.bare.items)
-    → (IsTrue gaps.is_all → (search.pending.items ≡ []) × (search.open.items ≡ [])) → TellsGaps t asked gaps
-tells_gaps t asked cells first search gaps long order whole each knows told covers done = record {
+    → (IsTrue gaps.is_all → (search.pending.items ≡ []) × (search.open.items ≡ [])) → (IsTrue gaps.is_all → KeepLimits t.rules) → TellsGaps t asked gaps
+tells_gaps t asked cells first search gaps long order whole each knows told covers done kept = record {
   each = All-weaker (IsToldGap s (length t.inputs)) (TellsGap t gaps.words.items) (λ gap is. record {
     none = λ m values r rule same inside there. is.bare.none r rule (each r (slice_get_within t.rules r rule there)) there order m values same inside;
     witness = is.witness;
   }) gaps.found.items told;
   all = all_told;
-  complete = λ sure zero nothing m values inputs are_asked.
-      elim (all_told sure zero m values inputs are_asked) [
-        | inl hit ↦ hit
-        | inr gap ↦ absurd (no_gap gap.place gap.gap (ap (λ gs. slice_get gs gap.place) (sym nothing) ∙ gap.there))
-      ];
+  complete = λ sure zero nothing. record {
+    hit = λ m values inputs are_asked.
+        elim (all_told sure zero m values inputs are_asked) [
+          | inl hit ↦ hit
+          | inr gap ↦ absurd (no_gap gap.place gap.gap (ap (λ gs. slice_get gs gap.place) (sym nothing) ∙ gap.there))
+        ];
+    kept = kept sure;
+  };
 }
   where
     s : Scene

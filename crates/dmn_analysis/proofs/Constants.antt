@@ -1,26 +1,27 @@
--- Tests in which literals alone stand break no limit.
-use Rattle.std.proofs.Common.{◌≡◌, ◌∙◌, ap, refl, ℕ, suc, ℤ, pos, List, [], ◌∷◌, map, Bool, true, false, ◌&&◌, if◌then◌else◌, Option, Some, arith}
-use Rattle.std.specs.Prelude.{nat_le, unsigned_abs, ◌-ℤ◌, ◌≢◌}
+-- Tests of constants break no limit.
+use Rattle.std.proofs.Common.{◌≡◌, ◌∙◌, sym, ap, refl, ℕ, suc, ◌<◌, pos, List, [], ◌∷◌, length, get_or, map, Bool, true, false, ◌&&◌, IsTrue, Option, Some}
+use Rattle.std.specs.Prelude.{◌-ℤ◌, ◌≢◌, ◌||◌}
 use Rattle.std.specs.List.{list_all, slice_get, zip}
-use Rattle.std.proofs.lemmas.Int.{ints}
+use Rattle.std.proofs.lemmas.List.Folds.{list_all_at}
 use Rattle.feel_value.specs.Datum.{Datum, null, boolean, number, text}
 use Rattle.feel_value.specs.Found.{each, ◌>>=◌}
-use Rattle.feel_value.specs.Limits.{greatest_number, in_range, keeps_size, names_distinct}
 use Rattle.feel_value.specs.Logic.{and_of, or_of, not_of, decided, is_yes}
 use Rattle.feel_value.specs.Outcome.{held}
+use Rattle.feel_value.specs.declared.feel.Outcome.{Outcome}
 use Rattle.feel_value.specs.declared.feel.Outcome.TheVariants.{Is, Limit}
 use Rattle.feel_value.specs.declared.logic.Truth.{Truth}
 use Rattle.feel_value.specs.declared.logic.Truth.TheVariants.{Yes, No}
 use Rattle.feel_text.specs.Expr as expr
 use Rattle.feel_text.specs.Expr.{Expr}
-use Rattle.feel_text.specs.Meaning.{Bindings, den, with_value, of_number}
-use Rattle.feel_text.specs.Satisfied.{Answer, Told, answer, high_bound, is_in, joined, low_bound, opposite_answer, satisfied, stands_to, tested, tested_any}
+use Rattle.feel_text.specs.Meaning.{Bindings, den, of_number, operation, with_value, with_values}
+use Rattle.feel_text.specs.Satisfied.{Answer, Broken, Told, answer, high_bound, is_in, joined, low_bound, opposite_answer, satisfied, stands_to, tested, tested_any}
 use Rattle.feel_text.specs.TestsView.{test_view}
 use Rattle.feel_text.specs.declared.unary.Test as code
 use Rattle.feel_text.specs.Tests.{Test, Compares, Interval, Equals, Tests, Any, OneOf, NoneOf}
 use Rattle.dmn_table.specs.Hits.{does_hit, is_satisfied}
 use Rattle.dmn_table.specs.Table.{Rule}
-use Rattle.dmn_analysis.specs.Constant.{is_constant, is_constant_test, is_literal, is_number}
+use Rattle.dmn_analysis.specs.Constant.{bare, has_value, is_arithmetic, is_constant, is_constant_test, is_literal, is_number, is_scalar, is_sum}
+use Rattle.dmn_analysis.proofs.Folding.{bare_means}
 
 -- ---- truth values
 
@@ -35,55 +36,75 @@ not_both false e f = cc
 
 -- ---- literals
 
-held_number : (z : ℤ) → in_range z ≡ true → held (number z) ≡ Is (number z)
-held_number z e = ap (λ b. if (b && keeps_size (number z)) && names_distinct (number z) then Is (number z) else Limit) e
-
-same_size : (n : ℕ) → unsigned_abs (pos 0 -ℤ pos n) ≡ n
-same_size n = omega (arith, ints)
-
-opposite_in_range : (n : ℕ) → nat_le n greatest_number ≡ true → in_range (pos 0 -ℤ pos n) ≡ true
-opposite_in_range n h = rw same_size h
-
 -- an expression that has this value whatever the names stand for
 abbrev pub HasValue : Expr → Type 0
 HasValue e = (d : Datum) × ((m : Bindings) → den e m ≡ Is d)
 
-negated : (e : Expr) → is_number e ≡ true → HasValue (expr.Negate e)
-negated (expr.Number n) h =
-    (number (pos 0 -ℤ pos n), λ m. ap (λ o. with_value o (λ d. held (of_number (λ x. number (pos 0 -ℤ x)) d))) (held_number (pos n) h) ∙ held_number (pos 0 -ℤ pos n) (opposite_in_range n h))
-negated expr.Null h = cc
-negated (expr.Boolean b) h = cc
-negated (expr.Text s) h = cc
-negated (expr.Name n) h = cc
-negated (expr.Group e) h = cc
-negated (expr.Members es) h = cc
-negated (expr.Call f e) h = cc
-negated (expr.Modulo a b) h = cc
-negated (expr.Not e) h = cc
-negated (expr.Negate e) h = cc
-negated (expr.Path e n) h = cc
-negated (expr.Binary op a b) h = cc
-negated (expr.Between e a b) h = cc
-negated (expr.If t a b) h = cc
+scalar_value : (e : Expr) → is_scalar e ≡ true → HasValue e
+scalar_value expr.Null h = (null, λ m. refl)
+scalar_value (expr.Boolean b) h = (boolean b, λ m. refl)
+scalar_value (expr.Text s) h = (text s, λ m. refl)
+scalar_value (expr.Number n) h = cc
+scalar_value (expr.Name n) h = cc
+scalar_value (expr.Group e) h = cc
+scalar_value (expr.Members es) h = cc
+scalar_value (expr.Call f e) h = cc
+scalar_value (expr.Modulo a b) h = cc
+scalar_value (expr.Not e) h = cc
+scalar_value (expr.Negate e) h = cc
+scalar_value (expr.Path e n) h = cc
+scalar_value (expr.Binary op a b) h = cc
+scalar_value (expr.Between e a b) h = cc
+scalar_value (expr.If t a b) h = cc
+
+-- what numbers are worked out of has the same value whatever the names stand for
+sum_same : (e : Expr) (m : Bindings) → is_sum e ≡ true → den e m ≡ den e []
+sum_same (expr.Number n) m h = refl
+sum_same (expr.Group e) m h = sum_same e m h
+sum_same (expr.Negate e) m h = ap (λ o. with_value o (λ d. held (of_number (λ x. number (pos 0 -ℤ x)) d))) (sum_same e m h)
+sum_same (expr.Binary op a b) m h =
+    let first = both (is_arithmetic op) (is_sum a && is_sum b) h in
+    let parts = both (is_sum a) (is_sum b) first.1 in
+    ap (λ o. with_values o (den b m) (λ d e. held (operation op d e))) (sum_same a m parts.0) ∙ ap (λ o. with_values (den a []) o (λ d e. held (operation op d e))) (sum_same b m parts.1)
+sum_same expr.Null m h = cc
+sum_same (expr.Boolean b) m h = cc
+sum_same (expr.Text s) m h = cc
+sum_same (expr.Name n) m h = cc
+sum_same (expr.Members es) m h = cc
+sum_same (expr.Call f e) m h = cc
+sum_same (expr.Modulo a b) m h = cc
+sum_same (expr.Not e) m h = cc
+sum_same (expr.Path e n) m h = cc
+sum_same (expr.Between e a b) m h = cc
+sum_same (expr.If t a b) m h = cc
+
+value_in : (o : Outcome) → has_value o ≡ true → (d : Datum) × (o ≡ Is d)
+value_in (Is d) h = (d, refl)
+value_in Limit h = cc
+
+number_value : (e : Expr) → is_number e ≡ true → HasValue e
+number_value e h =
+    let parts = both (is_sum e) (has_value (den e [])) h in
+    let value = value_in (den e []) parts.1 in
+    (value.0, λ m. sum_same e m parts.0 ∙ value.1)
 
 literal_value : (e : Expr) → is_literal e ≡ true → HasValue e
-literal_value expr.Null h = (null, λ m. refl)
-literal_value (expr.Boolean b) h = (boolean b, λ m. refl)
-literal_value (expr.Text s) h = (text s, λ m. refl)
-literal_value (expr.Number n) h = (number (pos n), λ m. held_number (pos n) h)
-literal_value (expr.Negate e) h = negated e h
-literal_value (expr.Name n) h = cc
-literal_value (expr.Group e) h = cc
-literal_value (expr.Members es) h = cc
-literal_value (expr.Call f e) h = cc
-literal_value (expr.Modulo a b) h = cc
-literal_value (expr.Not e) h = cc
-literal_value (expr.Path e n) h = cc
-literal_value (expr.Binary op a b) h = cc
-literal_value (expr.Between e a b) h = cc
-literal_value (expr.If t a b) h = cc
+literal_value e h = go (is_scalar (bare e)) refl h
+  where
+    go : (b : Bool) → is_scalar (bare e) ≡ b → (b || is_number e) ≡ true → HasValue e
+    go true scalar h = let value = scalar_value (bare e) scalar in (value.0, λ m. sym (bare_means e m) ∙ value.1 m)
+    go false scalar h = number_value e h
 
 -- ---- tests
+
+-- tests that all are constant, of which one is told not to be
+pub not_all_true : {X : Type 0} (p : X → Bool) (xs : List X) (i : ℕ) (x : X) → x ≡ get_or xs i x → i < length xs → list_all p xs ≡ true → (b : Bool) → (p x ≡ true → IsTrue b) → b ≡ false → ⊥
+not_all_true p xs i x here within all true known told = cc
+not_all_true p xs i x here within all false known told = go (p x) refl
+  where
+    go : (a : Bool) → p x ≡ a → ⊥
+    go true e = let wrong : false ≡ true = known e in cc
+    go false e = let wrong : true ≡ false = sym all ∙ list_all_at p xs i x within (ap p (sym here) ∙ e) in cc
 
 pub views_constant : (tests : List code.Test) → list_all is_constant_test (map test_view tests) ≡ list_all (λ t. is_constant_test (test_view t)) tests
 views_constant [] = refl
@@ -140,3 +161,7 @@ pub misses : (m : Bindings) (values : List Datum) (r : Rule) → ((k : ℕ) (t :
 misses m values r constant h =
     let a = all_told m r.tests values constant in
     answers_not_yes (does_hit m values r) (list_all (λ yes. yes) a.0) (ap (λ o. o >>= λ answers. Some (list_all (λ yes. yes) answers)) a.1) h
+
+-- constant tests break no limit
+pub never_broken : (t : Tests) (v : Datum) (m : Bindings) → is_constant t ≡ true → satisfied t v m ≢ Broken
+never_broken t v m h broken = let a = told t v m h in let wrong : Told a.0 ≡ Broken = sym a.1 ∙ broken in cc

@@ -1,9 +1,12 @@
 mod Answering
 mod Constants
+mod Folding
 mod GroupSearches
 mod Halves
 mod HitRules
 mod Joins
+mod KeptLimits
+mod Listed
 mod Listings
 mod OnClasses
 mod OnTexts
@@ -20,3 +23,4 @@ mod TextOrder
 mod Turning
 mod Wholes
 mod Witnesses
+mod WithoutNames

@@ -114,6 +114,15 @@ pairs_open s cells old new x is shared_is open_is knows = record {
   parted = λ none unshared m values inputs in_whole. absurd (not_empty old.open.items x (sym open_is ∙ none));
 }
 
+pub pairs_open_but : (s : Scene) (cells : List Cell) (old new : PairSearch) (x : ℕ) → new.pending.items ≡ old.pending.items → new.shared.items ≡ old.shared.items → new.open.items ≡ old.open.items ++ x ∷ []
+    → KnowsPairsBut s cells old → KnowsPairsBut s cells new
+pairs_open_but s cells old new x is shared_is open_is knows = record {
+  long = knows.long;
+  pending = subst (ArePending s) (sym is) knows.pending;
+  shared = subst (AreShared s) (sym shared_is) knows.shared;
+  parted = λ none unshared m values inputs in_whole. absurd (not_empty old.open.items x (sym open_is ∙ none));
+}
+
 -- one is taken to be looked at
 pub pairs_popped : (s : Scene) (old new : PairSearch) (next : Pending) → old.pending.items ≡ new.pending.items ++ next ∷ [] → new.shared.items ≡ old.shared.items → new.open.items ≡ old.open.items
     → KnowsPairs s old → KnowsPairsBut s next.cells.items new × (AreLeft s next.cells.items next.left.items × IsRising next.left.items)

@@ -97,7 +97,7 @@ pub no_default : (t : Table) (asked : List Asked) (m : Bindings) (values : List 
 no_default t asked m values complete e lawful all =
     from_hits t m (found_hits t m) (λ hs found.
     let parts = hits_parts t m values hs e found in
-    let hit = complete m values (inputs_of t m values e lawful) all in
+    let hit = complete.hit m values (inputs_of t m values e lawful) all in
     same_length (hit_of t.outputs m) (kept t.rules parts.0) hs parts.2
     (is_kept (does_hit m values) t.rules hit.place hit.rule parts.0 hit.there hit.hits parts.1))
 

@@ -6,12 +6,15 @@ use Rattle.std.proofs.lemmas.List.{at_drop_all, at_drop_more}
 use Rattle.std.proofs.lemmas.List.Folds.{list_any-append}
 use Rattle.feel_value.specs.Datum.{Datum, null, boolean, number, text, list, context}
 use Rattle.feel_value.specs.declared.feel.Outcome.TheVariants.{Is}
-use Rattle.feel_text.specs.Constants.{expr_of_constant}
+use Rattle.feel_text.specs.Constants.{expr_of_constant, expr_of_number}
 use Rattle.feel_text.specs.Expr.{Expr}
 use Rattle.feel_text.specs.Meaning.{Bindings, den}
-use Rattle.feel_text.specs.Tests.{Test, Interval}
-use Rattle.dmn_analysis.specs.Kinds.{Kinds, bounds_in, exprs_in, is_list, is_null, is_number, is_text, is_truth, is_whole, kinds_of, text_in}
-use Rattle.dmn_analysis.specs.Seeing.{is_null_value, is_whole_value, kinds_in, with_kinds}
+use Rattle.feel_text.specs.Tests.{Bound, Test, Compares, Equals, Interval}
+use Rattle.feel_text.specs.View.{view, views}
+use Rattle.feel_text.specs.declared.expr.Tree.{Tree}
+use Rattle.dmn_analysis.specs.Constant.{bare, is_sum}
+use Rattle.dmn_analysis.specs.Kinds.{Kinds, bounds_in, exprs_in, is_list, is_null, is_text, is_truth, kinds_of, listed, text_in, without_parentheses}
+use Rattle.dmn_analysis.specs.Seeing.{is_null_value, is_whole_value, kinds_among, kinds_in, with_kinds}
 
 -- ---- literals
 
@@ -32,7 +35,7 @@ null_of (text s) h = refl
 null_of (list ds) h = absurd (not_null (list ds) (h []) refl)
 null_of (context es) h = absurd (not_null (context es) (h []) refl)
 
-pub whole_of : (d : Datum) → ((m : Bindings) → den (expr_of_constant d) m ≡ Is d) → is_whole_value d ≡ is_whole (expr_of_constant d)
+pub whole_of : (d : Datum) → ((m : Bindings) → den (expr_of_constant d) m ≡ Is d) → is_whole_value d ≡ is_sum (expr_of_constant d)
 whole_of null h = refl
 whole_of (boolean b) h = refl
 whole_of (number (pos n)) h = refl
@@ -79,18 +82,66 @@ words_in_both ts us = sym (ap (flat_map text_in) (flat_map-append exprs_in ts us
 
 pub kinds_append : (ts us : List Test) → with_kinds (kinds_of ts) (kinds_of us) ≡ kinds_of (ts ++ us)
 kinds_append ts us =
-    alike (with_kinds (kinds_of ts) (kinds_of us)) (kinds_of (ts ++ us)) (any_of is_null exprs_in ts us) (any_of is_truth exprs_in ts us) (any_of is_number exprs_in ts us)
+    alike (with_kinds (kinds_of ts) (kinds_of us)) (kinds_of (ts ++ us)) (any_of is_null exprs_in ts us) (any_of is_truth exprs_in ts us) (any_of is_sum exprs_in ts us)
     (any_of is_list exprs_in ts us) (words_in_both ts us) (any_of is_text bounds_in ts us)
 
-two_ends : (c d : Bool) (low high : Expr) → with_kinds (kinds_in true low) (kinds_in true high) ≡ kinds_of (Interval c low high d ∷ [])
-two_ends c d low high =
-    alike (with_kinds (kinds_in true low) (kinds_in true high)) (kinds_of (Interval c low high d ∷ []))
-    (ap (λ b. is_null low || b) (sym (or_none (is_null high)))) (ap (λ b. is_truth low || b) (sym (or_none (is_truth high)))) (ap (λ b. is_number low || b) (sym (or_none (is_number high))))
+two_ends : (c d : Bool) (a b : Expr) → with_kinds (kinds_in true (bare a)) (kinds_in true (bare b)) ≡ kinds_of (Interval c a b d ∷ [])
+two_ends c d a b =
+    let low = bare a in
+    let high = bare b in
+    alike (with_kinds (kinds_in true low) (kinds_in true high)) (kinds_of (Interval c a b d ∷ []))
+    (ap (λ b. is_null low || b) (sym (or_none (is_null high)))) (ap (λ b. is_truth low || b) (sym (or_none (is_truth high)))) (ap (λ b. is_sum low || b) (sym (or_none (is_sum high))))
     (ap (λ b. is_list low || b) (sym (or_none (is_list high)))) (ap (λ ws. text_in low ++ ws) (sym (append-nil (text_in high)))) (ap (λ b. is_text low || b) (sym (or_none (is_text high))))
 
-pub interval : (k k1 k2 : Kinds) (c d : Bool) (low high : Expr) → k1 ≡ with_kinds k (kinds_in true low) → k2 ≡ with_kinds k1 (kinds_in true high) → k2 ≡ with_kinds k (kinds_of (Interval c low high d ∷ []))
+pub interval : (k k1 k2 : Kinds) (c d : Bool) (low high : Expr) → k1 ≡ with_kinds k (kinds_in true (bare low)) → k2 ≡ with_kinds k1 (kinds_in true (bare high)) → k2 ≡ with_kinds k (kinds_of (Interval c low high d ∷ []))
 interval k k1 k2 c d low high first second =
-    second ∙ ap (λ j. with_kinds j (kinds_in true high)) first ∙ assoc k (kinds_in true low) (kinds_in true high) ∙ ap (with_kinds k) (two_ends c d low high)
+    second ∙ ap (λ j. with_kinds j (kinds_in true (bare high))) first ∙ assoc k (kinds_in true (bare low)) (kinds_in true (bare high)) ∙ ap (with_kinds k) (two_ends c d low high)
+
+one_among : (e : Expr) → kinds_among (e ∷ []) ≡ kinds_in false e
+one_among e = alike (kinds_among (e ∷ [])) (kinds_in false e) (or_none (is_null e)) (or_none (is_truth e)) (or_none (is_sum e)) (or_none (is_list e)) (append-nil (text_in e)) refl
+
+pub seen_one : (k : Kinds) (e : Expr) → with_kinds k (kinds_in false e) ≡ with_kinds k (kinds_among (e ∷ []))
+seen_one k e = ap (with_kinds k) (sym (one_among e))
+
+pub compared : (bound : Bound) (e : Expr) → kinds_in true (bare e) ≡ kinds_of (Compares bound e ∷ [])
+compared bound e =
+    alike (kinds_in true (bare e)) (kinds_of (Compares bound e ∷ [])) (sym (or_none (is_null (bare e)))) (sym (or_none (is_truth (bare e)))) (sym (or_none (is_sum (bare e)))) (sym (or_none (is_list (bare e))))
+    (sym (append-nil (text_in (bare e)))) (sym (or_none (is_text (bare e))))
+
+pub asked : (e : Expr) → kinds_among (listed (bare e)) ≡ kinds_of (Equals e ∷ [])
+asked e =
+    let es = listed (bare e) in
+    let more = sym (append-nil es) in
+    alike (kinds_among es) (kinds_of (Equals e ∷ [])) (ap (list_any is_null) more) (ap (list_any is_truth) more) (ap (list_any is_sum) more) (ap (list_any is_list) more) (ap (flat_map text_in) more) refl
+
+number_listed : (z : ℤ) → listed (expr_of_number z) ≡ expr_of_number z ∷ []
+number_listed (pos n) = refl
+number_listed (negsuc n) = refl
+
+pub literal_listed : (d : Datum) → listed (expr_of_constant d) ≡ expr_of_constant d ∷ []
+literal_listed null = refl
+literal_listed (boolean b) = refl
+literal_listed (number z) = number_listed z
+literal_listed (text s) = refl
+literal_listed (list ds) = refl
+literal_listed (context es) = refl
+
+-- ---- one member after another
+
+abbrev pub member_kinds : List Tree → Kinds
+member_kinds xs = kinds_among (without_parentheses (views xs))
+
+pub member_turn : (xs : List Tree) (i : ℕ) (x : Tree) (k k1 whole : Kinds) → with_kinds k (member_kinds (drop i xs)) ≡ whole → x ≡ get_or xs i x → i < length xs
+    → k1 ≡ with_kinds k (kinds_in false (bare (view x))) → with_kinds k1 (member_kinds (drop (i + 1) xs)) ≡ whole
+member_turn xs i x k k1 whole before here more after =
+    ap (λ j. with_kinds j (member_kinds (drop (i + 1) xs))) after
+    ∙ assoc k (kinds_in false (bare (view x))) (member_kinds (drop (i + 1) xs))
+    ∙ ap (λ y. with_kinds k (member_kinds (y ∷ drop (i + 1) xs))) here
+    ∙ sym (at_drop_more (λ ys. with_kinds k (member_kinds ys)) xs i x more)
+    ∙ before
+
+pub member_done : (xs : List Tree) (i : ℕ) (k whole : Kinds) → length xs ≤ i → with_kinds k (member_kinds (drop i xs)) ≡ whole → k ≡ whole
+member_done xs i k whole last before = sym (none_more k) ∙ sym (at_drop_all (λ ys. with_kinds k (member_kinds ys)) xs i last) ∙ before
 
 -- ---- one after another
 

@@ -7,6 +7,7 @@ use Rattle.std.specs.declared.sync.ArcStr.{ArcStr}
 use Rattle.feel_value.specs.Datum.{Datum}
 use Rattle.feel_value.specs.Limits.{is_value}
 use Rattle.feel_text.specs.Meaning.{Bindings}
+use Rattle.feel_text.specs.Satisfied.{Broken, satisfied}
 use Rattle.dmn_table.specs.declared.hit_policy.HitPolicy.{HitPolicy}
 use Rattle.dmn_table.specs.declared.hit_policy.HitPolicy.TheVariants.{First, Priority}
 use Rattle.dmn_table.specs.Hits.{does_hit, hit_of}
@@ -22,6 +23,7 @@ use Rattle.dmn_analysis.specs.declared.cell.Words.{Words}
 use Rattle.dmn_analysis.specs.declared.found.Gap.{Gap}
 use Rattle.dmn_analysis.specs.declared.found.Gaps.{Gaps}
 use Rattle.dmn_analysis.specs.declared.found.Overlaps.{Overlaps}
+use Rattle.dmn_analysis.specs.Nameless.{is_nameless}
 
 -- values of so many input columns, one each
 pub record AreInputs (count : ℕ) (values : List Datum) : Type 0 where
@@ -47,8 +49,14 @@ pub record HasHit (m : Bindings) (values : List Datum) (rules : List Rule) : Typ
 abbrev pub AlwaysHit : ℕ → List Rule → List Asked → Type 0
 AlwaysHit count rules asked = (m : Bindings) (values : List Datum) → AreInputs count values → AreAsked asked values → HasHit m values rules
 
-abbrev pub IsComplete : Table → List Asked → Type 0
-IsComplete t asked = AlwaysHit (length t.inputs) t.rules asked
+-- no tests in which no name stands break a limit
+abbrev pub KeepLimits : List Rule → Type 0
+KeepLimits rules = All (λ r. All (λ ts. is_nameless ts ≡ true → (m : Bindings) (v : Datum) → satisfied ts v m ≢ Broken) r.tests) rules
+
+-- some rule always hits, and no tests in which no name stands break a limit
+pub record IsComplete (t : Table) (asked : List Asked) : Type 0 where
+  pub hit : AlwaysHit (length t.inputs) t.rules asked
+  pub kept : KeepLimits t.rules
 
 -- none of these rules hits for these values, one a column of so many, where no name stands for anything
 pub record IsGapIn (count : ℕ) (rules : List Rule) (values : List Datum) : Type 0 where

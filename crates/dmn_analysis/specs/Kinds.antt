@@ -1,9 +1,10 @@
 -- What is asked about in the columns of a table: the kinds of the constants that stand in their tests.
 use Rattle.std.specs.Prelude.{◌≡◌, ℕ, List, [], ◌∷◌, length, Bool, true, false, not, ◌&&◌, ◌||◌, Option, None, Some}
 use Rattle.std.specs.List.{flat_map, list_any, slice_get}
-use Rattle.feel_text.specs.Expr.{Expr, Null, Boolean, Number, Text, Members, Negate}
+use Rattle.feel_text.specs.Expr.{Expr, Exprs, none, more, Null, Boolean, Text, Members}
 use Rattle.feel_text.specs.Tests.{Test, Compares, Interval, Equals, Tests, Any, OneOf, NoneOf}
 use Rattle.dmn_table.specs.Table.{Rule, Table}
+use Rattle.dmn_analysis.specs.Constant.{bare, is_sum}
 use Rattle.dmn_analysis.specs.declared.asked.Asked.{Asked}
 use Rattle.dmn_analysis.specs.declared.asked.Texts.{Texts}
 use Rattle.dmn_analysis.specs.declared.asked.Texts.TheVariants as texts
@@ -24,17 +25,26 @@ tests_of_entry (Some ts) = tests_in ts
 abbrev pub column_tests : List Rule → ℕ → List Test
 column_tests rules place = flat_map (λ r. tests_of_entry (slice_get r.tests place)) rules
 
--- the expressions that a test compares the input with by order
+-- the expressions that a test compares the input with by order, without their parentheses
 abbrev pub bounds_in : Test → List Expr
-bounds_in (Compares bound e) = e ∷ []
-bounds_in (Interval closed_low low high closed_high) = low ∷ high ∷ []
+bounds_in (Compares bound e) = bare e ∷ []
+bounds_in (Interval closed_low low high closed_high) = bare low ∷ bare high ∷ []
 bounds_in (Equals e) = []
+
+-- the members of a list without their parentheses, or else the expression itself
+abbrev pub without_parentheses : Exprs → List Expr
+without_parentheses none = []
+without_parentheses (more e es) = bare e ∷ without_parentheses es
+
+abbrev pub listed : Expr → List Expr
+listed (Members es) = without_parentheses es
+listed e = e ∷ []
 
 -- all that a test compares the input with
 abbrev pub exprs_in : Test → List Expr
-exprs_in (Compares bound e) = e ∷ []
-exprs_in (Interval closed_low low high closed_high) = low ∷ high ∷ []
-exprs_in (Equals e) = e ∷ []
+exprs_in (Compares bound e) = bare e ∷ []
+exprs_in (Interval closed_low low high closed_high) = bare low ∷ bare high ∷ []
+exprs_in (Equals e) = listed (bare e)
 
 -- ---- their kinds
 
@@ -45,16 +55,6 @@ is_null e = false
 abbrev pub is_truth : Expr → Bool
 is_truth (Boolean b) = true
 is_truth e = false
-
-abbrev pub is_whole : Expr → Bool
-is_whole (Number n) = true
-is_whole e = false
-
--- a number, which may have a `-`
-abbrev pub is_number : Expr → Bool
-is_number (Number n) = true
-is_number (Negate e) = is_whole e
-is_number e = false
 
 abbrev pub is_list : Expr → Bool
 is_list (Members es) = true
@@ -81,7 +81,7 @@ abbrev pub kinds_of : List Test → Kinds
 kinds_of ts = record {
   null = list_any is_null (flat_map exprs_in ts);
   truths = list_any is_truth (flat_map exprs_in ts);
-  numbers = list_any is_number (flat_map exprs_in ts);
+  numbers = list_any is_sum (flat_map exprs_in ts);
   lists = list_any is_list (flat_map exprs_in ts);
   words = flat_map text_in (flat_map exprs_in ts);
   by_order = list_any is_text (flat_map bounds_in ts);
@@ -91,9 +91,9 @@ abbrev pub is_empty : {X : Type 0} → List X → Bool
 is_empty [] = true
 is_empty (x ∷ xs) = false
 
--- whether no constant stands in the tests
+-- whether no constant but null stands in the tests
 abbrev pub has_none : Kinds → Bool
-has_none k = not (((k.null || k.truths) || k.numbers) || k.lists) && is_empty k.words
+has_none k = not ((k.truths || k.numbers) || k.lists) && is_empty k.words
 
 -- ---- what is asked about
 
@@ -123,7 +123,7 @@ pub record AsksAll (k : Kinds) (a : Asked) : Type 0 where
   pub utf8 : k.by_order ≡ true → a.texts ≡ texts.Utf8
   pub all : k.by_order ≡ false → a.texts ≡ texts.All
 
--- the values of the kinds of the constants in the tests of a column, or every value where there is no constant
+-- the values of the kinds of the constants in the tests of a column, or every value where there is no constant but null
 abbrev pub AsksOf : Bool → Kinds → Asked → Type 0
 AsksOf words_only k a = (has_none k ≡ false → AsksKinds words_only k a) × (has_none k ≡ true → AsksAll k a)
 

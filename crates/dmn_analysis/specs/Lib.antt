@@ -4,6 +4,7 @@ pub mod Cells
 pub mod Cutting
 pub mod Whole
 pub mod Constant
+pub mod Nameless
 pub mod Claims
 pub mod Searching
 pub mod Sharing
@@ -14,3 +15,4 @@ pub mod Ranking
 pub mod Listing
 pub mod Kinds
 pub mod Seeing
+pub mod Members

@@ -1,13 +1,15 @@
 -- Internal: no public contract cites these words. The constants that were seen in the tests of a column.
 use Rattle.std.specs.Prelude.{ℕ, List, [], ◌∷◌, ◌++◌, map, Bool, true, false, ◌||◌, Option, None, Some, option_map}
 use Rattle.std.specs.Arc.{arc_str_bytes}
+use Rattle.std.specs.List.{flat_map, list_any}
 use Rattle.std.specs.declared.alloc.Global.{Global}
 use Rattle.std.specs.declared.sync.ArcStr.{ArcStr}
 use denote.Ref.{Bor}
 use Rattle.feel_value.specs.Datum.{Datum, null, boolean, number, text}
 use Rattle.feel_text.specs.Expr.{Expr}
 use Rattle.feel_text.specs.Tests.{Tests}
-use Rattle.dmn_analysis.specs.Kinds.{Kinds, is_list, is_null, is_number, is_text, is_truth, text_in}
+use Rattle.dmn_analysis.specs.Constant.{is_sum}
+use Rattle.dmn_analysis.specs.Kinds.{Kinds, is_list, is_null, is_text, is_truth, text_in}
 use Rattle.dmn_analysis.specs.declared.kinds.Seen.{Seen}
 
 abbrev pub is_null_value : Datum → Bool
@@ -53,5 +55,16 @@ with_words k words = record { null = k.null; truths = k.truths; numbers = k.numb
 
 -- the kind of an expression, which is a bound of an order or isn't
 abbrev pub kinds_in : Bool → Expr → Kinds
-kinds_in true e = record { null = is_null e; truths = is_truth e; numbers = is_number e; lists = is_list e; words = text_in e; by_order = is_text e }
-kinds_in false e = record { null = is_null e; truths = is_truth e; numbers = is_number e; lists = is_list e; words = text_in e; by_order = false }
+kinds_in true e = record { null = is_null e; truths = is_truth e; numbers = is_sum e; lists = is_list e; words = text_in e; by_order = is_text e }
+kinds_in false e = record { null = is_null e; truths = is_truth e; numbers = is_sum e; lists = is_list e; words = text_in e; by_order = false }
+
+-- the kinds of expressions that no order compares with
+abbrev pub kinds_among : List Expr → Kinds
+kinds_among es = record {
+  null = list_any is_null es;
+  truths = list_any is_truth es;
+  numbers = list_any is_sum es;
+  lists = list_any is_list es;
+  words = flat_map text_in es;
+  by_order = false;
+}

@@ -1,19 +1,7 @@
 //! Where the tests of a rule cut the numbers of a column. Nothing is promised of it: it is advice on where to cut.
-use crate::on_class::{literal, negative};
+use crate::folded::{bare, number_of};
 use feel_text::{Bound, Test, TestsTree, Tree, high_end, low_end};
-use feel_value::Value;
 use std::alloc::{AllocError, Global};
-
-/// The number that an expression is, where it is a literal, with a `-` or without.
-pub(crate) fn number(expr: &Tree) -> Option<i64> {
-    if let Some(n) = negative(expr) {
-        return Some(n);
-    }
-    match literal(expr) {
-        Some(Value::Number(n)) => Some(*n),
-        _ => None,
-    }
-}
 
 /// The lowest and the highest number that may meet some tests.
 #[derive(Clone, Copy)]
@@ -83,7 +71,7 @@ impl Bounds {
 
     // The same of what an expression is; all of them where that is no number.
     fn bounded_by(&mut self, bound: Bound, expr: &Tree) -> Result<Hull, AllocError> {
-        match number(expr) {
+        match number_of(expr) {
             Some(n) => self.bounded(bound, n),
             None => Ok(self.all()),
         }
@@ -93,7 +81,7 @@ impl Bounds {
     fn tested(&mut self, test: &Test) -> Result<Option<Hull>, AllocError> {
         match test {
             Test::Compares(bound, expr) => {
-                let Some(n) = number(expr) else {
+                let Some(n) = number_of(expr) else {
                     return Ok(None);
                 };
                 Ok(Some(self.bounded(*bound, n)?))
@@ -106,18 +94,42 @@ impl Bounds {
                     end: below.end,
                 }))
             }
-            Test::Equals(expr) => {
-                let Some(n) = number(expr) else {
-                    return Ok(None);
-                };
-                let above = self.bounded(Bound::AtLeast, n)?;
-                let below = self.bounded(Bound::AtMost, n)?;
-                Ok(Some(Hull {
-                    start: above.start,
-                    end: below.end,
-                }))
-            }
+            Test::Equals(expr) => match bare(expr) {
+                Tree::List(members) => self.listed(members),
+                _ => self.equal(expr),
+            },
         }
+    }
+
+    // What being equal to an expression leaves; None where that is no number.
+    fn equal(&mut self, expr: &Tree) -> Result<Option<Hull>, AllocError> {
+        let Some(n) = number_of(expr) else {
+            return Ok(None);
+        };
+        let above = self.bounded(Bound::AtLeast, n)?;
+        let below = self.bounded(Bound::AtMost, n)?;
+        Ok(Some(Hull {
+            start: above.start,
+            end: below.end,
+        }))
+    }
+
+    // What being equal to one of these leaves; None where none is a number.
+    fn listed(&mut self, members: &[Tree]) -> Result<Option<Hull>, AllocError> {
+        let mut hull: Option<Hull> = None;
+        for member in members {
+            let Some(one) = self.equal(member)? else {
+                continue;
+            };
+            hull = match hull {
+                Some(all) => Some(Hull {
+                    start: all.start.min(one.start),
+                    end: all.end.max(one.end),
+                }),
+                None => Some(one),
+            };
+        }
+        Ok(hull)
     }
 
     // What one of the tests leaves.

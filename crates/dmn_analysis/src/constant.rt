@@ -1,61 +1,30 @@
-//! Tests in which literals alone stand: of one value it is known whether it meets them.
+//! Tests of constants alone: of one value it is known whether it meets them.
 ghost use Rattle.std.specs.Prelude.{◌≡◌, true, IsTrue};
-ghost use Rattle.feel_text.specs.Constants.{expr_of_constant};
 ghost use Rattle.feel_text.specs.TestsView.{test_view, tests_view};
 ghost use Rattle.feel_text.specs.View.{view};
 ghost use Rattle.std.specs.List.{list_all};
-ghost use Rattle.dmn_analysis.specs.Constant.{is_constant, is_constant_test, is_literal as is_literal_expr, is_number as is_number_expr};
+ghost use Rattle.dmn_analysis.specs.Constant.{bare, is_constant, is_constant_test, is_literal as is_literal_expr, is_scalar as is_scalar_expr};
 
-use feel_text::{Constant, Test, Tests, TestsTree, Tree};
-use feel_value::Value;
+use crate::folded::{literal, number_of};
+use feel_text::{Test, Tests, TestsTree, Tree};
 
-fn has_number(constant: &Constant) -> bool
-    ensures { is_number_expr (expr_of_constant constant.now) ≡ true → IsTrue result }
+// Null, a truth value or a text, which may be in parentheses.
+fn is_scalar(expr: &Tree) -> bool
+    ensures { is_scalar_expr (bare (view expr.now)) ≡ true → IsTrue result }
 {
-    match constant.value().value() {
-        Value::Number(_) => true,
-        Value::Null | Value::Bool(_) | Value::Text(_) | Value::List(_) | Value::Context(_) => false,
+    match literal(expr) {
+        Some(_) => true,
+        None => false,
     }
 }
 
-fn is_number(expr: &Tree) -> bool
-    ensures { is_number_expr (view expr.now) ≡ true → IsTrue result }
-{
-    match expr {
-        Tree::Constant(constant) => has_number(constant),
-        Tree::Number(_) => true,
-        Tree::Name(_)
-        | Tree::Group(_)
-        | Tree::List(_)
-        | Tree::Call(_, _)
-        | Tree::Modulo(_, _)
-        | Tree::Not(_)
-        | Tree::Negate(_)
-        | Tree::Path(_, _)
-        | Tree::Binary(_, _, _)
-        | Tree::Between(_, _, _)
-        | Tree::If(_, _, _) => false,
-    }
-}
-
-// A number, which may have a `-`, a truth value, null or a text.
+// One of these, or a number.
 fn is_literal(expr: &Tree) -> bool
     ensures { is_literal_expr (view expr.now) ≡ true → IsTrue result }
 {
-    match expr {
-        Tree::Constant(_) => true,
-        Tree::Number(_) => true,
-        Tree::Negate(inner) => is_number(inner),
-        Tree::Name(_)
-        | Tree::Group(_)
-        | Tree::List(_)
-        | Tree::Call(_, _)
-        | Tree::Modulo(_, _)
-        | Tree::Not(_)
-        | Tree::Path(_, _)
-        | Tree::Binary(_, _, _)
-        | Tree::Between(_, _, _)
-        | Tree::If(_, _, _) => false,
+    match number_of(expr) {
+        Some(_) => true,
+        None => is_scalar(expr),
     }
 }
 
@@ -95,7 +64,7 @@ fn is_constant_tree(tests: &TestsTree) -> bool
     }
 }
 
-/// Whether literals alone stand in the tests.
+/// Whether the tests are of constants alone.
 pub(crate) fn are_constant(tests: &Tests) -> bool
     ensures { is_constant tests.now ≡ true → IsTrue result }
 {

@@ -22,7 +22,8 @@ pub struct Gaps {
     pub more: usize,
     /// Whether each value for which no rule hits is in some gap that was found.
     pub is_all: bool,
-    /// Rules, counted from 0, of which it isn't known where they hit. Where there are none, and these aren't all, the steps ran out.
+    /// Rules, counted from 0, of which it isn't known where they hit, or with tests that break a limit. Where there are none, and these
+    /// aren't all, the steps ran out.
     pub open: Vec<usize>,
     /// How many steps were taken.
     pub steps: u64,

@@ -1,5 +1,5 @@
 //! Whether some rule hits whatever the values are, or for which values none does.
-ghost use Rattle.std.specs.Prelude.{◌≡◌, ◌<◌, ℕ, [], IsTrue, IfOk, IfSome, None, false, length, map};
+ghost use Rattle.std.specs.Prelude.{◌≡◌, ◌<◌, ◌++◌, ℕ, [], IsTrue, IfOk, IfSome, None, false, length, map};
 ghost use Rattle.std.specs.List.{All};
 ghost use Rattle.dmn_table.specs.Parts.{rule_view};
 ghost use Rattle.dmn_analysis.specs.Cells.{AllInOrder};
@@ -12,6 +12,7 @@ ghost use Rattle.dmn_analysis.specs.Telling.{IsDealtWith, IsToldGap};
 
 use crate::asked::Asked;
 use crate::asking::all_miss;
+use crate::broken::broken_rules;
 use crate::cell::{Cell, Words};
 use crate::found::{Gap, Gaps};
 use crate::gaps::{Bare, Pending, Search, go_through};
@@ -154,6 +155,15 @@ pub(crate) fn distinct(numbers: Vec<usize>) -> Vec<usize> {
     numbers
 }
 
+// These rules and those.
+fn with_rules(unsure: Vec<usize>, broken: &[usize]) -> Result<Vec<usize>, AllocError>
+    ensures { IfOk result (λ all. all.items ≡ unsure.items ++ broken.now) }
+{
+    let mut all = unsure;
+    all.extend_from_slice(broken)?;
+    Ok(all)
+}
+
 fn nothing_told(alloc: Global, words: Vec<Words>) -> Gaps
     ensures words { result.words.items ≡ words.items }
     ensures found { result.found.items ≡ [] }
@@ -210,6 +220,8 @@ pub fn find_gaps(
     } = search;
     let all = joined_where_right(alloc, &words, &rows, bare, count)?;
     let told = tell(alloc, &words, rules, &all, count, most)?;
+    let broken = broken_rules(alloc, rules)?;
+    let open = with_rules(open, &broken)?;
     let is_all = are_all(&told, &pending, &open);
     let Told { found, more, .. } = told;
     Ok(Gaps {

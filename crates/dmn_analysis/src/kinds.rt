@@ -6,17 +6,19 @@ ghost use Rattle.feel_value.specs.Datum.{Datum};
 ghost use Rattle.feel_value.specs.View.{datum_of};
 ghost use Rattle.feel_text.specs.Constants.{expr_of_constant};
 ghost use Rattle.feel_text.specs.TestsView.{test_view, test_views, tests_view};
-ghost use Rattle.feel_text.specs.View.{view};
+ghost use Rattle.feel_text.specs.View.{view, views};
 ghost use Rattle.dmn_table.specs.Parts.{rule_view};
 ghost use Rattle.dmn_analysis.specs.Asked.{is_asked, is_in_utf8};
-ghost use Rattle.dmn_analysis.specs.Kinds.{AskKinds, AskTexts, AsksAll, AsksOf, Kinds, column_tests, has_none, is_list, is_null, is_number, is_truth, is_whole, kinds_of, tests_in, tests_of_entry, text_in};
-ghost use Rattle.dmn_analysis.specs.Seeing.{entry_view, is_null_value, is_truth_value, is_whole_value, kinds_in, seen_kinds, value_words, with_kinds, with_words, words_of};
+ghost use Rattle.dmn_analysis.specs.Constant.{is_arithmetic as is_arithmetic_of, is_sum as is_sum_of};
+ghost use Rattle.dmn_analysis.specs.Kinds.{AskKinds, AskTexts, AsksAll, AsksOf, Kinds, column_tests, has_none, is_list, is_null, is_truth, kinds_of, listed, tests_in, tests_of_entry, text_in, without_parentheses};
+ghost use Rattle.dmn_analysis.specs.Seeing.{entry_view, is_null_value, is_truth_value, is_whole_value, kinds_among, kinds_in, seen_kinds, value_words, with_kinds, with_words, words_of};
 
 use crate::asked::{Asked, Texts};
+use crate::folded::bare;
 use crate::words::in_order;
 use dmn_table::{Rule, Table};
 use feel_lang::Tests;
-use feel_text::{Constant, Test, TestsTree, Tree};
+use feel_text::{Constant, Operator, Test, TestsTree, Tree};
 use feel_value::Value;
 use std::alloc::{AllocError, Global};
 use std::sync::ArcStr;
@@ -75,7 +77,7 @@ fn is_whole_value(value: &Value) -> bool
 }
 
 fn is_whole_constant(constant: &Constant) -> bool
-    ensures { result ≡ is_whole (expr_of_constant constant.now) }
+    ensures { result ≡ is_sum_of (expr_of_constant constant.now) }
 {
     is_whole_value(constant.value().value())
 }
@@ -138,43 +140,34 @@ fn is_truth(expr: &Tree) -> bool
     }
 }
 
-/// Whether it is a number without a `-`.
-fn is_whole(expr: &Tree) -> bool
-    ensures { result ≡ is_whole (view expr.now) }
+// Whether an operator works numbers out.
+fn is_arithmetic(operator: Operator) -> bool
+    ensures { result ≡ is_arithmetic_of operator }
 {
-    match expr {
-        Tree::Constant(constant) => is_whole_constant(constant),
-        Tree::Number(_) => true,
-        Tree::Name(_)
-        | Tree::Group(_)
-        | Tree::List(_)
-        | Tree::Call(_, _)
-        | Tree::Modulo(_, _)
-        | Tree::Not(_)
-        | Tree::Negate(_)
-        | Tree::Path(_, _)
-        | Tree::Binary(_, _, _)
-        | Tree::Between(_, _, _)
-        | Tree::If(_, _, _) => false,
-    }
+    matches!(
+        operator,
+        Operator::Add | Operator::Subtract | Operator::Multiply
+    )
 }
 
-/// Whether it is a number, which may have a `-`.
-fn is_number(expr: &Tree) -> bool
-    ensures { result ≡ is_number (view expr.now) }
+/// Whether it is of numbers alone, with parentheses, `-`, `+` and `*`.
+fn is_sum(expr: &Tree) -> bool
+    ensures { result ≡ is_sum_of (view expr.now) }
 {
     match expr {
         Tree::Constant(constant) => is_whole_constant(constant),
         Tree::Number(_) => true,
-        Tree::Negate(inner) => is_whole(inner),
+        Tree::Group(inner) => is_sum(inner),
+        Tree::Negate(inner) => is_sum(inner),
+        Tree::Binary(operator, left, right) => {
+            is_arithmetic(*operator) && is_sum(left) && is_sum(right)
+        }
         Tree::Name(_)
-        | Tree::Group(_)
         | Tree::List(_)
         | Tree::Call(_, _)
         | Tree::Modulo(_, _)
         | Tree::Not(_)
         | Tree::Path(_, _)
-        | Tree::Binary(_, _, _)
         | Tree::Between(_, _, _)
         | Tree::If(_, _, _) => false,
     }
@@ -248,7 +241,7 @@ impl Seen {
     {
         self.null |= is_null(expr);
         self.truths |= is_truth(expr);
-        self.numbers |= is_number(expr);
+        self.numbers |= is_sum(expr);
         self.parted |= is_list(expr);
         self.see_text(text_of(expr))?;
         Ok(())
@@ -263,21 +256,67 @@ impl Seen {
         Ok(())
     }
 
+    fn see_one(&mut self, expr: &Tree) -> Result<(), AllocError>
+        ensures { OnOk result (seen_kinds self.new ≡ with_kinds (seen_kinds self.old) (kinds_among (view expr.now ∷ []))) }
+    {
+        self.see(expr)?;
+        Ok(())
+    }
+
+    fn see_members(&mut self, members: &[Tree]) -> Result<(), AllocError>
+        ensures { OnOk result (seen_kinds self.new ≡ with_kinds (seen_kinds self.old) (kinds_among (without_parentheses (views members.now)))) }
+    {
+        for member in members {
+            self.see(bare(member))?;
+        }
+        Ok(())
+    }
+
+    // Of an expression that the input is to be, or in whose list it is to be.
+    fn see_asked(&mut self, expr: &Tree) -> Result<(), AllocError>
+        ensures { OnOk result (seen_kinds self.new ≡ with_kinds (seen_kinds self.old) (kinds_among (listed (view expr.now)))) }
+    {
+        match expr {
+            Tree::List(members) => {
+                self.see_members(members)?;
+                Ok(())
+            }
+            Tree::Constant(_) => {
+                self.see_one(expr)?;
+                Ok(())
+            }
+            Tree::Number(_)
+            | Tree::Name(_)
+            | Tree::Group(_)
+            | Tree::Call(_, _)
+            | Tree::Modulo(_, _)
+            | Tree::Not(_)
+            | Tree::Negate(_)
+            | Tree::Path(_, _)
+            | Tree::Binary(_, _, _)
+            | Tree::Between(_, _, _)
+            | Tree::If(_, _, _) => {
+                self.see_one(expr)?;
+                Ok(())
+            }
+        }
+    }
+
     fn see_test(&mut self, test: &Test) -> Result<(), AllocError>
         ensures { OnOk result (seen_kinds self.new ≡ with_kinds (seen_kinds self.old) (kinds_of (test_view test.now ∷ []))) }
     {
         match test {
             Test::Compares(_, expr) => {
-                self.see_bound(expr)?;
+                self.see_bound(bare(expr))?;
                 Ok(())
             }
             Test::Interval(_, low, high, _) => {
-                self.see_bound(low)?;
-                self.see_bound(high)?;
+                self.see_bound(bare(low))?;
+                self.see_bound(bare(high))?;
                 Ok(())
             }
             Test::Equals(expr) => {
-                self.see(expr)?;
+                self.see_asked(bare(expr))?;
                 Ok(())
             }
         }
@@ -341,11 +380,11 @@ impl Seen {
         Ok(seen)
     }
 
-    // Whether there is no constant.
+    // Whether there is no constant but null.
     fn is_nothing(&self) -> bool
         ensures { result ≡ has_none (seen_kinds self.now) }
     {
-        if self.null || self.truths || self.numbers || self.parted {
+        if self.truths || self.numbers || self.parted {
             return false;
         }
         self.texts.is_empty()
@@ -363,7 +402,7 @@ impl Seen {
     }
 
     // What is asked for: of texts all, or where `words_only` says so those that are seen, unless some are compared by order. Where
-    // there is no constant, every value.
+    // there is no constant but null, every value.
     fn into_asked(self, words_only: bool) -> Asked
         ensures { AsksOf words_only (seen_kinds self) result }
     {
@@ -406,8 +445,8 @@ fn texts_asked(texts: Vec<ArcStr>, words_only: bool, has_order: bool) -> Texts
 }
 
 /// Of each column of the table the values of the kinds (number, text, truth value, null, list or context) of the constants in its
-/// tests, or every value where there is no constant; with `words_only`, of texts only those that stand in its tests, where no test
-/// compares texts by order.
+/// tests, or every value where there is no constant but null; with `words_only`, of texts only those that stand in its tests, where no
+/// test compares texts by order.
 pub fn kinds_asked(alloc: Global, table: &Table, words_only: bool) -> Result<Vec<Asked>, AllocError>
     ensures { IfOk result (λ asked. AskKinds words_only table.now asked.items) }
 {

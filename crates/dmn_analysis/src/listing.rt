@@ -16,7 +16,7 @@ ghost use Rattle.dmn_analysis.specs.Listing.{AreRising, AskFor, IsListing, answe
 ghost use Rattle.dmn_analysis.specs.Searching.{Settles};
 
 use crate::class::{first_text, is_less};
-use crate::on_class::{literal, negative};
+use crate::folded::{literal, number_of};
 use crate::words::are_in_order;
 use feel_text::{Test, Tests, TestsTree, Tree};
 use feel_value::Value;
@@ -63,15 +63,11 @@ impl Constants {
     fn add(&mut self, expr: &Tree) -> Result<bool, AllocError>
         ensures { IfOk result (λ is. IsTrue is → (v : Datum) (m : Bindings) → joined or_of (Told (decided (is_constant_among self.old v))) (tested (Equals (view expr.now)) v m) ≡ Told (decided (is_constant_among self.new v))) }
     {
-        if let Some(number) = negative(expr) {
+        if let Some(number) = number_of(expr) {
             self.add_number(number)?;
             return Ok(true);
         }
         match literal(expr) {
-            Some(Value::Number(number)) => {
-                self.add_number(*number)?;
-                Ok(true)
-            }
             Some(Value::Text(text)) => {
                 self.add_text(text)?;
                 Ok(true)

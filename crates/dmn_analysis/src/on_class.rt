@@ -1,11 +1,8 @@
 //! What unary tests answer of all values of a class, whatever the names stand for.
 ghost use Rattle.std.specs.Prelude.{◌≡◌, true, IfSome};
-ghost use Rattle.feel_value.specs.Datum.{Datum, number as number_datum};
+ghost use Rattle.feel_value.specs.Datum.{Datum};
 ghost use Rattle.feel_value.specs.Logic.{decided};
 ghost use Rattle.feel_value.specs.View.{datum_of};
-ghost use Rattle.feel_value.specs.declared.feel.Outcome.TheVariants.{Is};
-ghost use Rattle.feel_text.specs.Constants.{expr_of_constant};
-ghost use Rattle.feel_text.specs.Expr.{Negate};
 ghost use Rattle.feel_text.specs.Meaning.{Bindings, den};
 ghost use Rattle.feel_text.specs.Satisfied.{Told, answer, is_in, satisfied, stands_to, tested, tested_any};
 ghost use Rattle.feel_text.specs.TestsView.{bound_view, test_view, test_views, tests_view};
@@ -13,51 +10,10 @@ ghost use Rattle.feel_text.specs.View.{view};
 ghost use Rattle.dmn_analysis.specs.Classes.{is_list as is_list_of, is_of};
 
 use crate::class::Class;
-use feel_text::{Bound, Constant, Test, Tests, TestsTree, Tree, high_end, low_end};
+use crate::folded::{bare, literal, number_of};
+use crate::members::is_listed;
+use feel_text::{Bound, Test, Tests, TestsTree, Tree, high_end, low_end};
 use feel_value::{Truth, Value, and3, decided as truth_of, not3, or3};
-
-// The number of a literal.
-fn literal_number(constant: &Constant) -> Option<i64>
-    ensures { IfSome result (λ n. (m : Bindings) → den (expr_of_constant constant.now) m ≡ Is (number_datum n)) }
-{
-    match constant.value().value() {
-        Value::Number(n) => Some(*n),
-        _ => None,
-    }
-}
-
-// The number that the opposite of an expression is, where that is a literal.
-fn opposite(inner: &Tree) -> Option<i64>
-    ensures { IfSome result (λ n. (m : Bindings) → den (Negate (view inner.now)) m ≡ Is (number_datum n)) }
-{
-    let Tree::Constant(constant) = inner else {
-        return None;
-    };
-    let n = literal_number(constant)?;
-    let opposite = 0i64.checked_sub(n)?;
-    Some(opposite)
-}
-
-/// The number that an expression is the negative of.
-pub(crate) fn negative(expr: &Tree) -> Option<i64>
-    ensures { IfSome result (λ n. (m : Bindings) → den (view expr.now) m ≡ Is (number_datum n)) }
-{
-    let Tree::Negate(inner) = expr else {
-        return None;
-    };
-    let n = opposite(inner)?;
-    Some(n)
-}
-
-/// The value of a literal.
-pub(crate) fn literal(expr: &Tree) -> Option<&Value>
-    ensures { IfSome result (λ d. (m : Bindings) → den (view expr.now) m ≡ Is (datum_of d.now)) }
-{
-    match expr {
-        Tree::Constant(constant) => Some(constant.value().value()),
-        _ => None,
-    }
-}
 
 // How each value of the class stands to this one.
 fn stands(class: &Class, bound: Bound, value: &Value) -> Option<Truth>
@@ -87,7 +43,7 @@ fn stands(class: &Class, bound: Bound, value: &Value) -> Option<Truth>
 fn compared(class: &Class, bound: Bound, expr: &Tree) -> Option<Truth>
     ensures { IfSome result (λ t. (v : Datum) (m : Bindings) → is_of class.now v ≡ true → answer (den (view expr.now) m) (stands_to (bound_view bound) v) ≡ Told t) }
 {
-    if let Some(n) = negative(expr) {
+    if let Some(n) = number_of(expr) {
         let truth = stands(class, bound, &Value::Number(n))?;
         return Some(truth);
     }
@@ -117,13 +73,27 @@ fn is_value(class: &Class, value: &Value) -> Option<bool>
     Some(same)
 }
 
-// Whether each value of the class is what an expression is.
+// Whether each value of the class is in the list that an expression is; None where it is another expression, or that isn't known.
+fn listed(class: &Class, expr: &Tree) -> Option<bool>
+    ensures { IfSome result (λ b. (v : Datum) (m : Bindings) → is_of class.now v ≡ true → answer (den (view expr.now) m) (λ d. decided (is_in v d)) ≡ Told (decided b)) }
+{
+    let Tree::List(members) = bare(expr) else {
+        return None;
+    };
+    let found = is_listed(class, members)?;
+    Some(found)
+}
+
+// Whether each value of the class is what an expression is, or in the list that it is.
 fn matched(class: &Class, expr: &Tree) -> Option<Truth>
     ensures { IfSome result (λ t. (v : Datum) (m : Bindings) → is_of class.now v ≡ true → answer (den (view expr.now) m) (λ d. decided (is_in v d)) ≡ Told t) }
 {
-    if let Some(n) = negative(expr) {
+    if let Some(n) = number_of(expr) {
         let same = is_value(class, &Value::Number(n))?;
         return Some(truth_of(same));
+    }
+    if let Some(found) = listed(class, expr) {
+        return Some(truth_of(found));
     }
     let value = literal(expr)?;
     let same = is_value(class, value)?;

@@ -11,7 +11,7 @@ ghost use Rattle.dmn_analysis.specs.declared.cell.Cell.{Cell as CellData};
 use crate::cell::{Cell, Words};
 use crate::gaps::Pending;
 use crate::row::Row;
-use crate::searching::{are_few, first_unsure, halves, possible};
+use crate::searching::{are_few, first_unsure, halves, possible, sure_rules};
 use crate::witness::values_of;
 use std::alloc::{AllocError, Global};
 
@@ -72,6 +72,30 @@ impl PairSearch {
         Ok(())
     }
 
+    // Cells of whose values it isn't known for each of these rules whether it hits: those that hit for all of them are shared.
+    fn leave(
+        &mut self,
+        alloc: Global,
+        words: &[Words],
+        rows: &[Row],
+        cells: Vec<Cell>,
+        left: Vec<usize>,
+        unsure: usize,
+        steps: &mut u64,
+    ) -> Result<(), AllocError>
+        requires there { All (λ r. r < length rows.now) left.items }
+        requires order { AllInOrder words.now }
+        ensures { OnOk result ((s : Scene) → s.words ≡ words.now → s.rules ≡ rows.now → KnowsPairsBut s cells.items self.old → IsRising left.items → KnowsPairs s self.new) }
+    {
+        self.open.push(unsure)?;
+        let sure = sure_rules(alloc, words, rows, &cells, &left, steps)?;
+        if are_few(&sure) {
+            return Ok(());
+        }
+        self.share(alloc, words, cells, sure)?;
+        Ok(())
+    }
+
     // One turn of the search.
     fn turn(
         &mut self,
@@ -96,7 +120,8 @@ impl PairSearch {
         };
         let Some((lower, upper)) = halves(alloc, words, rows, &next.cells, &left, unsure, steps)?
         else {
-            self.open.push(unsure.rule)?;
+            let Pending { cells, left: _ } = next;
+            self.leave(alloc, words, rows, cells, left, unsure.rule, steps)?;
             return Ok(());
         };
         self.put(alloc, lower, upper, left)?;

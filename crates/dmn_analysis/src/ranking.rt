@@ -9,7 +9,7 @@ ghost use Rattle.dmn_table.specs.Priority.{is_higher as is_higher_of, listed_val
 ghost use Rattle.dmn_analysis.specs.Claims.{IsAhead};
 ghost use Rattle.dmn_analysis.specs.Ranking.{AreRanks, HasPlace, HavePlaces, IsRank, RanksBefore};
 
-use crate::on_class::negative;
+use crate::folded::number_of;
 use dmn_table::{Listed, Output, Rule, Table, lists_of};
 use feel_lang::Expr;
 use feel_text::Tree;
@@ -37,11 +37,11 @@ fn place_of(listed: &Listed<'_>, count: usize, value: &Feel) -> usize
     }
 }
 
-// The value that an expression is, where that is the opposite of a literal.
-fn negative_value(expr: &Tree) -> Option<Feel>
+// The number that an expression is, as a value.
+fn number_value(expr: &Tree) -> Option<Feel>
     ensures { IfSome result (λ value. (m : Bindings) → den (view expr.now) m ≡ Is value) }
 {
-    let number = negative(expr)?;
+    let number = number_of(expr)?;
     let value = Feel::of(Value::Number(number))?;
     Some(value)
 }
@@ -54,7 +54,7 @@ fn constant_place(listed: &Listed<'_>, count: usize, expr: &Expr) -> Option<usiz
     if count == 0 {
         return Some(0);
     }
-    if let Some(value) = negative_value(expr.tree()) {
+    if let Some(value) = number_value(expr.tree()) {
         let place = place_of(listed, count, &value);
         return Some(place);
     }

@@ -115,6 +115,30 @@ pub(crate) fn first_unsure(
     None
 }
 
+/// Of these rules those that are known to hit for all values of the cells.
+pub(crate) fn sure_rules(
+    alloc: Global,
+    words: &[Words],
+    rows: &[Row],
+    cells: &[Cell],
+    left: &[usize],
+    steps: &mut u64,
+) -> Result<Vec<usize>, AllocError>
+    requires { All (λ r. r < length rows.now) left.now }
+    ensures must { IfOk result (λ sure. All (IsMustHit words.now rows.now cells.now) sure.items) }
+    ensures rising { IfOk result (λ sure. IsRising left.now → IsRising sure.items) }
+{
+    let mut sure = Vec::with_capacity(alloc, left.len())?;
+    for number in left {
+        let rule = *number;
+        if !must_hit(words, cells, &rows[rule], steps) {
+            continue;
+        }
+        sure.push(rule)?;
+    }
+    Ok(sure)
+}
+
 /// The cells cut in two where that parts the rules that are left best; None where nothing is known to part them.
 fn best_halves(
     alloc: Global,

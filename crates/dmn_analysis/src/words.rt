@@ -4,7 +4,7 @@ ghost use Rattle.dmn_analysis.specs.Cells.{AllInOrder, AreInOrder};
 
 use crate::cell::Words;
 use crate::class::is_less;
-use crate::on_class::literal;
+use crate::folded::{bare, literal};
 use dmn_table::Rule;
 use feel_text::{Test, TestsTree, Tree};
 use feel_value::Value;
@@ -18,9 +18,20 @@ fn add_text(texts: &mut Vec<ArcStr>, expr: &Tree) -> Result<(), AllocError> {
     Ok(())
 }
 
+fn add_texts(texts: &mut Vec<ArcStr>, members: &[Tree]) -> Result<(), AllocError> {
+    for member in members {
+        add_text(texts, member)?;
+    }
+    Ok(())
+}
+
 fn add_test(texts: &mut Vec<ArcStr>, test: &Test) -> Result<(), AllocError> {
     match test {
-        Test::Compares(_, expr) | Test::Equals(expr) => add_text(texts, expr),
+        Test::Compares(_, expr) => add_text(texts, expr),
+        Test::Equals(expr) => match bare(expr) {
+            Tree::List(members) => add_texts(texts, members),
+            _ => add_text(texts, expr),
+        },
         Test::Interval(_, low, high, _) => {
             add_text(texts, low)?;
             add_text(texts, high)

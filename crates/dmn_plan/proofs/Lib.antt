@@ -14,3 +14,4 @@ mod Rising
 mod Floats
 pub mod Decided
 pub mod Logics
+mod NameClasses

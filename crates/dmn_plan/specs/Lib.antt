@@ -11,3 +11,4 @@ pub mod Parts
 pub mod Indexed
 pub mod Identical
 pub mod Code
+pub mod Classes

@@ -18,6 +18,7 @@ pub(crate) fn nothing(alloc: Global, places: usize) -> Result<Vec<Outcome>, Allo
 }
 
 /// Keeps the outcome at a place, in the place of what was there before.
+#[inline(always)]
 pub(crate) fn keep(found: &mut Vec<Outcome>, place: usize, outcome: Outcome)
     requires { place < length found.old.items }
     ensures kept { values_in found.new.items ≡ kept_at (values_in found.old.items) place outcome }

@@ -74,3 +74,29 @@ pub behind_first : (n : ℕ) (xs ys : Bindings) → length xs ≤ n → xs ++ ta
 behind_first n xs ys h =
     let whole : length xs + (n - length xs) ≡ n = omega (arith, h) in
     sym (take-append-add xs ys (n - length xs)) ∙ ap (λ k. take k (xs ++ ys)) whole
+
+-- ---- what is lent, what is listed, and what comes after
+
+-- what a name is bound to in the last of three counts
+pub bound_three : (name : List ℕ) (xs ys zs : Bindings) → bound name (xs ++ (ys ++ zs)) ≡ first_some (first_some (bound name zs) (bound name ys)) (bound name xs)
+bound_three name xs ys zs = bound_both name xs (ys ++ zs) ∙ ap (λ o. first_some o (bound name xs)) (bound_both name ys zs)
+
+-- one more in the second of three, where the third is empty
+pub one_between : (xs ys zs : Bindings) (b : List ℕ × Datum) → length zs ≡ 0 → xs ++ ((ys ++ b ∷ []) ++ zs) ≡ (xs ++ (ys ++ zs)) ++ b ∷ []
+one_between xs ys [] b h =
+    ap (λ w. xs ++ w) (append-nil (ys ++ b ∷ [])) ∙ one_behind xs ys b ∙ ap (λ w. (xs ++ w) ++ b ∷ []) (sym (append-nil ys))
+one_between xs ys (z ∷ zs) b h = let none : ⊥ = omega (arith, h) in absurd none
+
+-- one more in the third
+pub one_last : (xs ys zs : Bindings) (b : List ℕ × Datum) → xs ++ (ys ++ (zs ++ b ∷ [])) ≡ (xs ++ (ys ++ zs)) ++ b ∷ []
+one_last xs ys zs b = ap (λ w. xs ++ w) (one_behind ys zs b) ∙ one_behind xs (ys ++ zs) b
+
+-- cut off within the third
+pub cut_third : (n : ℕ) (xs ys zs : Bindings) → length xs + length ys ≤ n → xs ++ (ys ++ take (n - length xs - length ys) zs) ≡ take n (xs ++ (ys ++ zs))
+cut_third n xs ys zs h =
+    ap (λ w. xs ++ w) (behind_first (n - length xs) ys zs (omega (arith, h))) ∙ behind_first n xs (ys ++ zs) (omega (arith, h))
+
+-- cut off within the second
+pub cut_second : (n : ℕ) (xs ys zs : Bindings) → length xs ≤ n → n ≤ length xs + length ys → xs ++ (take (n - length xs) ys ++ []) ≡ take n (xs ++ (ys ++ zs))
+cut_second n xs ys zs h k =
+    ap (λ w. xs ++ w) (append-nil (take (n - length xs) ys) ∙ sym (take-append-le (n - length xs) ys zs (omega (arith, h, k)))) ∙ behind_first n xs (ys ++ zs) h

@@ -1,5 +1,5 @@
 pub mod Index
-pub mod Slots
+pub mod Positions
 pub mod Few
 pub mod Modulo
 pub mod ListMembers

@@ -11,8 +11,7 @@ named_of b = (cow_str_bytes b.name, b.value)
 abbrev pub few_of : List NamedValue → Bindings
 few_of = map named_of
 
--- There are at most so many, of which 32 are the most, and others only behind these.
-pub record IsFilled (few : List NamedValue) (limit : ℕ) (more : Bindings) : Type 0 where
-  pub size : length few ≤ limit
-  pub most : limit ≤ 32
-  pub none : length few < limit → more ≡ []
+-- There are at most 32, and others only behind these.
+pub record IsFilled (few : List NamedValue) (more : Bindings) : Type 0 where
+  pub size : length few ≤ 32
+  pub none : length few < 32 → more ≡ []

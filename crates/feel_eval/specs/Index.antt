@@ -1,40 +1,38 @@
--- Internal but for `bindings_of`: where the last binding of a name stands, by a map, or by the positions of names in a list.
-use Rattle.std.specs.Prelude.{◌≡◌, ℕ, ◌<◌, List, map, take, length, slice_index_or, Option, Some, None}
+-- Internal but for `bindings_of`: where the last binding of a name stands, and what it hides.
+use Rattle.std.specs.Prelude.{◌≡◌, ℕ, ◌<◌, List, map, take, length, slice_index_or, Option}
 use Rattle.std.specs.declared.alloc.Global.{Global}
 use Rattle.std.specs.BTreeMap.{BTreeMap, get_by}
 use Rattle.std.specs.Ordering.{nat_cmp}
 use Rattle.std.specs.Cmp.Lexicographic.{slice_cmp}
 use Rattle.std.specs.Cow.{cow_str_bytes}
 use Rattle.std.specs.declared.borrow.CowStr.{CowStr}
+use Rattle.feel_value.specs.Datum.{Datum}
 use Rattle.feel_text.specs.Meaning.{Bindings}
 use Rattle.feel_text.specs.Places.{last_place}
 use Rattle.feel_eval.specs.declared.indexed.Binding.{Binding}
-use Rattle.feel_eval.specs.declared.places.Places.{Places}
-use Rattle.feel_eval.specs.declared.places.Places.TheVariants.{Named, Listed}
-use Rattle.feel_eval.specs.declared.places.Slots.{Slots}
+
+-- bindings of any form, each by its name and its value
+abbrev pub named_by : {B : Type 0} → (B → List ℕ) → (B → Datum) → List B → Bindings
+named_by name value = map (λ b. (name b, value b))
+
+-- The place of the last binding of each name is known, and each binding has the place of the one that it hides.
+pub record IsIndexed {B : Type 0} (name : B → List ℕ) (value : B → Datum) (hides : B → Option ℕ) (bindings : List B) (place : List ℕ → Option ℕ) : Type 0 where
+  pub last : (q : List ℕ) → place q ≡ last_place q (named_by name value bindings)
+  pub hidden : (i : ℕ) (b : B) → i < length bindings
+      → hides (slice_index_or bindings i b) ≡ last_place (name (slice_index_or bindings i b)) (take i (named_by name value bindings))
+
+abbrev pub name_of : Binding → List ℕ
+name_of b = cow_str_bytes b.name
+
+abbrev pub value_of : Binding → Datum
+value_of b = b.value
+
+abbrev pub hidden_of : Binding → Option ℕ
+hidden_of b = b.hidden
 
 abbrev pub bindings_of : List Binding → Bindings
 bindings_of = map (λ b. (cow_str_bytes b.name, b.value))
 
--- what a map has at the name
-abbrev pub named_place : BTreeMap (CowStr Global) ℕ → List ℕ → Option ℕ
-named_place names name = get_by (λ k. slice_cmp nat_cmp name (cow_str_bytes k)) names
-
--- what lies at the position of the name; where it has none, what the map has
-abbrev pub at_position : List (Option ℕ) → BTreeMap (CowStr Global) ℕ → List ℕ → Option ℕ → Option ℕ
-at_position slots others name None = named_place others name
-at_position slots others name (Some i) = slice_index_or slots i None
-
-abbrev pub slot_place : Slots → List ℕ → Option ℕ
-slot_place s name = at_position s.slots.items s.others name (last_place name s.scope.now)
-
--- what there is at the name
-abbrev pub place_in : Places → List ℕ → Option ℕ
-place_in (Named names) name = named_place names name
-place_in (Listed slots) name = slot_place slots name
-
--- The place of the last binding of each name is there, and each binding has the place of the one that it hides.
-pub record IsIndexed (bindings : List Binding) (places : Places) : Type 0 where
-  pub last : (name : List ℕ) → place_in places name ≡ last_place name (bindings_of bindings)
-  pub hidden : (i : ℕ) (b : Binding) → i < length bindings
-      → (slice_index_or bindings i b).hidden ≡ last_place (cow_str_bytes (slice_index_or bindings i b).name) (take i (bindings_of bindings))
+-- what the map has at the name
+abbrev pub place_in : BTreeMap (CowStr Global) ℕ → List ℕ → Option ℕ
+place_in places name = get_by (λ k. slice_cmp nat_cmp name (cow_str_bytes k)) places

@@ -5,7 +5,6 @@ ghost use Rattle.feel_text.specs.Meaning.{bound};
 ghost use Rattle.feel_eval.specs.Few.{few_of};
 
 use crate::indexed::Indexed;
-use feel_text::{Needs, Reference};
 use feel_value::Feel;
 use std::alloc::{AllocError, Global};
 use std::borrow::CowStr;
@@ -27,8 +26,6 @@ struct NamedValue<'a> {
 #[derive(Drop)]
 pub(crate) struct Added<'a> {
     few: Vec<NamedValue<'a>>,
-    // So many of the first bindings have no index.
-    limit: usize,
     // Those behind the first few.
     more: Indexed<'a>,
 }
@@ -47,27 +44,16 @@ impl<'a> Model for Added<'a> {
 
     ghost view = { λ e. few_of e.few.items ++ e.more };
 
-    ghost invariant = { λ e. IsFilled e.few.items e.limit e.more };
+    ghost invariant = { λ e. IsFilled e.few.items e.more };
 }
 
 impl<'a> Added<'a> {
-    /// No names. It takes no memory, and keeps the allocator for its bindings. Where names of a list are bound that is known
-    /// beforehand, and too long to be looked through, they are found by their positions in it.
-    pub(crate) fn new(alloc: Global, scope: Option<&'a Needs>) -> Added<'a>
+    /// No names. It takes no memory, and keeps the allocator for its bindings.
+    pub(crate) fn new(alloc: Global) -> Added<'a>
         ensures { result ≡ [] }
     {
-        if let Some(scope) = scope {
-            if scope.len() > FEW {
-                return Added {
-                    few: Vec::new(alloc),
-                    limit: 0,
-                    more: Indexed::over(alloc, scope),
-                };
-            }
-        }
         Added {
             few: Vec::new(alloc),
-            limit: FEW,
             more: Indexed::new(alloc),
         }
     }
@@ -78,7 +64,7 @@ impl<'a> Added<'a> {
     pub(crate) fn bind(&mut self, name: CowStr<'a>, value: Feel) -> Result<(), AllocError>
         ensures { MatchResult result (λ _. self.new ≡ self.old ++ (cow_str_bytes name.entry, value) ∷ []) (λ _. self.new ≡ self.old) }
     {
-        if self.few.len() == self.limit {
+        if self.few.len() == FEW {
             self.more.bind(name, value)?;
             return Ok(());
         }
@@ -97,20 +83,6 @@ impl<'a> Added<'a> {
         match self.more.find(name) {
             Some(value) => Some(value),
             None => last_named(&self.few, name),
-        }
-    }
-
-    /// The same of a name as it stands in a text.
-    #[tactic(auto, using(crate::proofs::Few::bound_both, crate::proofs::Few::bound_first))]
-    pub(crate) fn find_at(&self, reference: &Reference) -> Option<&Feel>
-        ensures { option_map (λ v. v.now) result ≡ bound reference.now.name self.now }
-    {
-        if self.more.len() == 0 {
-            return last_named(&self.few, reference.name.as_str());
-        }
-        match self.more.find_at(reference) {
-            Some(value) => Some(value),
-            None => last_named(&self.few, reference.name.as_str()),
         }
     }
 

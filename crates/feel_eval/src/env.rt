@@ -7,11 +7,15 @@ ghost use Rattle.feel_text.specs.Needed.{bindings_from, is_found};
 
 use crate::added::Added;
 use crate::lent::Lent;
+use crate::listed::Listed;
 use feel_text::{Needs, Reference};
 use feel_value::{Feel, Outcome};
 use std::alloc::{AllocError, Global};
 use std::borrow::CowStr;
 use std::marker::Model;
+
+// So many names are looked through one by one, also where they are known beforehand.
+const FEW: usize = 8;
 
 /// A list of names with values, of which the last binding of a name counts.
 ///
@@ -20,10 +24,10 @@ use std::marker::Model;
 pub struct Env<'a> {
     // What a decision needs. It is looked at where it lies.
     lent: Option<Lent<'a>>,
-    // Those behind it, once there are some.
+    // Names after it that are known beforehand, where they are many.
+    listed: Option<Listed<'a>>,
+    // Those after these, once there are some.
     added: Option<Added<'a>>,
-    // The names that may be bound, where they are known beforehand. It is a hint.
-    scope: Option<&'a Needs>,
     alloc: Global,
 }
 
@@ -37,7 +41,7 @@ impl<'a> Model for Env<'a> {
 
     ghost coded = { coded_list (coded× (coded_list coded_ℕ) datum_code) };
 
-    ghost view = { λ e. unwrap_or e.lent [] ++ unwrap_or e.added [] };
+    ghost view = { λ e. unwrap_or e.lent [] ++ (unwrap_or e.listed [] ++ unwrap_or e.added []) };
 }
 
 impl<'a> Env<'a> {
@@ -47,8 +51,8 @@ impl<'a> Env<'a> {
     {
         Env {
             lent: None,
+            listed: None,
             added: None,
-            scope: None,
             alloc,
         }
     }
@@ -61,8 +65,8 @@ impl<'a> Env<'a> {
         let lent = Lent::of(needs, found)?;
         Some(Env {
             lent: Some(lent),
+            listed: None,
             added: None,
-            scope: None,
             alloc,
         })
     }
@@ -80,8 +84,8 @@ impl<'a> Env<'a> {
         let lent = Lent::of(needs, found)?;
         Some(Env {
             lent: Some(lent),
+            listed: listed_over(alloc, scope),
             added: None,
-            scope: Some(scope),
             alloc,
         })
     }
@@ -98,8 +102,8 @@ impl<'a> Env<'a> {
     {
         Env {
             lent: Some(Lent::of_found(needs, found)),
+            listed: listed_over(alloc, scope),
             added: None,
-            scope: Some(scope),
             alloc,
         }
     }
@@ -120,14 +124,33 @@ impl<'a> Env<'a> {
         self.bind_either(CowStr::Borrowed(name), value)
     }
 
-    #[tactic(auto, using(crate::proofs::Few::one_behind))]
+    #[inline(always)]
+    #[tactic(auto, using(crate::proofs::Few::one_between))]
     fn bind_either(&mut self, name: CowStr<'a>, value: Feel) -> Result<(), AllocError>
+        ensures { MatchResult result (λ _. self.new ≡ self.old ++ (cow_str_bytes name.entry, value) ∷ []) (λ _. self.new ≡ self.old) }
+    {
+        if added_len(&self.added) > 0 {
+            return self.bind_added(name, value);
+        }
+        let Some(listed) = &mut self.listed else {
+            return self.bind_added(name, value);
+        };
+        match listed.bind(name.as_str(), value)? {
+            Some(value) => self.bind_added(name, value),
+            None => Ok(()),
+        }
+    }
+
+    // The same after all that are listed.
+    #[inline(never)]
+    #[tactic(auto, using(crate::proofs::Few::one_last))]
+    fn bind_added(&mut self, name: CowStr<'a>, value: Feel) -> Result<(), AllocError>
         ensures { MatchResult result (λ _. self.new ≡ self.old ++ (cow_str_bytes name.entry, value) ∷ []) (λ _. self.new ≡ self.old) }
     {
         if let Some(added) = &mut self.added {
             return added.bind(name, value);
         }
-        let mut added = Added::new(self.alloc, self.scope);
+        let mut added = Added::new(self.alloc);
         added.bind(name, value)?;
         self.added = Some(added);
         Ok(())
@@ -135,22 +158,29 @@ impl<'a> Env<'a> {
 
     /// The value of the last binding of the name.
     #[inline(never)]
-    #[tactic(auto, using(crate::proofs::Few::bound_both))]
+    #[tactic(auto, using(crate::proofs::Few::bound_three))]
     pub fn find(&self, name: &str) -> Option<&Feel>
         ensures { option_map (λ v. v.now) result ≡ bound name.now self.now }
     {
         if let Some(value) = find_added(&self.added, name) {
             return Some(value);
         }
+        if let Some(value) = find_listed(&self.listed, name) {
+            return Some(value);
+        }
         self.lent.as_ref()?.find(name)
     }
 
     // The same of a name as it stands in a text.
-    #[tactic(auto, using(crate::proofs::Few::bound_both))]
+    #[inline(always)]
+    #[tactic(auto, using(crate::proofs::Few::bound_three))]
     pub(crate) fn find_at(&self, reference: &Reference) -> Option<&Feel>
         ensures { option_map (λ v. v.now) result ≡ bound reference.now.name self.now }
     {
-        if let Some(value) = find_added_at(&self.added, reference) {
+        if let Some(value) = find_added(&self.added, reference.name.as_str()) {
+            return Some(value);
+        }
+        if let Some(value) = find_listed_at(&self.listed, reference) {
             return Some(value);
         }
         self.lent.as_ref()?.find_at(reference)
@@ -160,7 +190,7 @@ impl<'a> Env<'a> {
     pub fn len(&self) -> usize
         ensures { result ≡ length self.now }
     {
-        lent_len(&self.lent) + added_len(&self.added)
+        lent_len(&self.lent) + listed_len(&self.listed) + added_len(&self.added)
     }
 
     /// Drops all bindings but the first `len`; what they hid counts again. It takes no memory.
@@ -169,32 +199,77 @@ impl<'a> Env<'a> {
         ensures { self.new ≡ take len self.old }
     {
         let lent = lent_len(&self.lent);
-        if len > lent {
-            cut_added(&mut self.added, len - lent);
+        let listed = listed_len(&self.listed);
+        if len > lent + listed {
+            cut_added(&mut self.added, len - lent - listed);
             return;
         }
         cut_added(&mut self.added, 0);
+        if len > lent {
+            cut_listed(&mut self.listed, len - lent);
+            return;
+        }
+        cut_listed(&mut self.listed, 0);
         if let Some(lent) = &mut self.lent {
             lent.cut(len);
         }
     }
 }
 
-// The value of the last binding of the name behind what is lent.
+// Names that are listed, none of them bound; None where they are few.
+fn listed_over<'a>(alloc: Global, scope: &'a Needs) -> Option<Listed<'a>>
+    ensures { unwrap_or result [] ≡ [] }
+{
+    if scope.len() <= FEW {
+        return None;
+    }
+    Some(Listed::new(alloc, scope))
+}
+
+// The value of the last binding of the name among those after all that are listed.
 fn find_added<'b>(added: &'b Option<Added<'_>>, name: &str) -> Option<&'b Feel>
     ensures { option_map (λ v. v.now) result ≡ bound name.now (unwrap_or added.now []) }
 {
     added.as_ref()?.find(name)
 }
 
-// The same of a name as it stands in a text.
-fn find_added_at<'b>(added: &'b Option<Added<'_>>, reference: &Reference) -> Option<&'b Feel>
-    ensures { option_map (λ v. v.now) result ≡ bound reference.now.name (unwrap_or added.now []) }
+// The value of the last binding of a name that is listed.
+fn find_listed<'b>(listed: &'b Option<Listed<'_>>, name: &str) -> Option<&'b Feel>
+    ensures { option_map (λ v. v.now) result ≡ bound name.now (unwrap_or listed.now []) }
 {
-    added.as_ref()?.find_at(reference)
+    listed.as_ref()?.find(name)
 }
 
-// Drops all bindings behind what is lent but the first so many.
+// The same of a name as it stands in a text.
+#[inline(always)]
+fn find_listed_at<'b>(listed: &'b Option<Listed<'_>>, reference: &Reference) -> Option<&'b Feel>
+    ensures { option_map (λ v. v.now) result ≡ bound reference.now.name (unwrap_or listed.now []) }
+{
+    listed.as_ref()?.find_at(reference)
+}
+
+// Drops all bindings of listed names but the first so many.
+fn cut_listed(listed: &mut Option<Listed<'_>>, len: usize)
+    requires { len ≤ length (unwrap_or listed.old []) }
+    ensures { unwrap_or listed.new [] ≡ take len (unwrap_or listed.old []) }
+{
+    if let Some(listed) = listed {
+        listed.cut(len);
+    }
+}
+
+// How many bindings of listed names there are.
+fn listed_len(listed: &Option<Listed<'_>>) -> usize
+    ensures number { result ≡ length (unwrap_or listed.now []) }
+    ensures small { result ≤ 2 ^ 60 }
+{
+    match listed {
+        Some(listed) => listed.len(),
+        None => 0,
+    }
+}
+
+// Drops all bindings after what is listed but the first so many.
 fn cut_added(added: &mut Option<Added<'_>>, len: usize)
     requires { len ≤ length (unwrap_or added.old []) }
     ensures { unwrap_or added.new [] ≡ take len (unwrap_or added.old []) }
@@ -204,7 +279,7 @@ fn cut_added(added: &mut Option<Added<'_>>, len: usize)
     }
 }
 
-// How many bindings there are behind what is lent.
+// How many bindings there are after what is listed.
 fn added_len(added: &Option<Added<'_>>) -> usize
     ensures number { result ≡ length (unwrap_or added.now []) }
     ensures small { result < 2 ^ 63 + 32 }

@@ -1,11 +1,10 @@
 //! Names with values, found by an index.
-ghost use Rattle.std.specs.Prelude.{◌≡◌, ◌≤◌, ◌<◌, [], ◌∷◌, ◌++◌, ◌^◌, List, ℕ, length, take, option_map, MatchResult, IfOk, OnOk, OnErr, Some, vec_len, vec_capacity, bytes_eq, if◌then◌else◌};
+ghost use Rattle.std.specs.Prelude.{◌≡◌, ◌≤◌, ◌<◌, [], ◌∷◌, ◌++◌, ◌^◌, List, ℕ, length, take, option_map, MatchResult, IfOk, OnOk, OnErr, IsSome, Some, vec_len, vec_capacity, bytes_eq, if◌then◌else◌};
+ghost use Rattle.std.specs.BTreeMap.{IsUnchanged};
 ghost use Rattle.std.specs.Cow.{cow_str_bytes};
 ghost use Rattle.feel_text.specs.Meaning.{bound};
 ghost use Rattle.feel_eval.specs.Index.{place_in};
 
-use crate::places::{Places, Slots};
-use feel_text::{Needs, Reference};
 use feel_value::Feel;
 use std::alloc::{AllocError, Global};
 use std::borrow::CowStr;
@@ -28,7 +27,7 @@ struct Binding<'a> {
 pub(crate) struct Indexed<'a> {
     bindings: Vec<Binding<'a>>,
     // Where the last binding of each name stands.
-    places: Places<'a>,
+    places: BTreeMap<CowStr<'a>, usize>,
 }
 
 impl<'a> Model for Indexed<'a> {
@@ -41,11 +40,11 @@ impl<'a> Model for Indexed<'a> {
 
     ghost coded = { coded_list (coded× (coded_list coded_ℕ) datum_code) };
 
-    ghost use Rattle.feel_eval.specs.Index.{bindings_of, IsIndexed};
+    ghost use Rattle.feel_eval.specs.Index.{bindings_of, name_of, value_of, hidden_of, place_in, IsIndexed};
 
     ghost view = { λ e. bindings_of e.bindings.items };
 
-    ghost invariant = { λ e. IsIndexed e.bindings.items e.places };
+    ghost invariant = { λ e. IsIndexed name_of value_of hidden_of e.bindings.items (place_in e.places) };
 }
 
 impl<'a> Indexed<'a> {
@@ -55,17 +54,7 @@ impl<'a> Indexed<'a> {
     {
         Indexed {
             bindings: Vec::new(alloc),
-            places: Places::Named(BTreeMap::new(alloc)),
-        }
-    }
-
-    /// The same, where names of a list are found by their positions in it.
-    pub(crate) fn over(alloc: Global, scope: &'a Needs) -> Indexed<'a>
-        ensures { result ≡ [] }
-    {
-        Indexed {
-            bindings: Vec::new(alloc),
-            places: Places::Listed(Slots::new(alloc, scope)),
+            places: BTreeMap::new(alloc),
         }
     }
 
@@ -87,15 +76,7 @@ impl<'a> Indexed<'a> {
     pub(crate) fn find(&self, name: &str) -> Option<&Feel>
         ensures { option_map (λ v. v.now) result ≡ bound name.now self.now }
     {
-        let place = self.places.place(name)?;
-        Some(&self.bindings[place].value)
-    }
-
-    /// The same of a name as it stands in a text.
-    pub(crate) fn find_at(&self, reference: &Reference) -> Option<&Feel>
-        ensures { option_map (λ v. v.now) result ≡ bound reference.now.name self.now }
-    {
-        let place = self.places.place_at(reference)?;
+        let place = *self.places.get(name)?;
         Some(&self.bindings[place].value)
     }
 
@@ -120,7 +101,7 @@ impl<'a> Indexed<'a> {
                     hidden,
                 } = binding;
                 drop(value);
-                self.places.uncover(name, hidden);
+                uncover(&mut self.places, name, hidden);
             }
         }
     }
@@ -129,16 +110,29 @@ impl<'a> Indexed<'a> {
 /// Gives the name the place behind the items, where there is then room. Tells the place that it had.
 fn placed<'a, T>(
     items: &mut Vec<T>,
-    places: &mut Places<'a>,
+    places: &mut BTreeMap<CowStr<'a>, usize>,
     name: &CowStr<'a>,
 ) -> Result<Option<usize>, AllocError>
     ensures items { items.new.items ≡ items.old.items }
     ensures room { OnOk result (vec_len items.new < vec_capacity items.new) }
     ensures hidden { IfOk result (λ p. p ≡ place_in places.old (cow_str_bytes name.now)) }
     ensures place { OnOk result ((other : List ℕ) → place_in places.new other ≡ (if bytes_eq (cow_str_bytes name.now) other then Some (length items.old.items) else place_in places.old other)) }
-    ensures refused { OnErr result ((other : List ℕ) → place_in places.new other ≡ place_in places.old other) }
+    ensures refused { OnErr result (IsUnchanged places.old places.new) }
 {
+    let key = name.clone()?;
     items.reserve(1)?;
-    let hidden = places.put(name, items.len())?;
+    let hidden = places.insert(key, items.len())?;
     Ok(hidden)
+}
+
+// Gives the name the place that its last binding has hidden, where there is one.
+fn uncover<'a>(places: &mut BTreeMap<CowStr<'a>, usize>, name: CowStr<'a>, hidden: Option<usize>)
+    requires { IsSome (place_in places.old (cow_str_bytes name)) }
+    ensures { (other : List ℕ) → place_in places.new other ≡ (if bytes_eq (cow_str_bytes name.entry) other then hidden else place_in places.old other) }
+{
+    match hidden {
+        // The name is there, so this takes no memory.
+        Some(place) => drop(places.insert(name, place)),
+        None => drop(places.remove(name.as_str())),
+    }
 }

@@ -13,8 +13,8 @@ mod evaluation;
 mod holds_tests;
 mod indexed;
 mod lent;
+mod listed;
 mod operands;
-mod places;
 mod scalar;
 
 pub use env::Env;

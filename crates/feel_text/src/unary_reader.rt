@@ -159,7 +159,7 @@ fn list<'a>(alloc: Global, tokens: &'a [Token]) -> Result<(Vec<Test>, &'a [Token
     ensures { Gives (λ x. (test_views x.0.items, views x.1.now)) result
         (list_at (length (views tokens.now)) (views tokens.now)) }
 {
-    let mut tests = Vec::new(alloc);
+    let mut tests = Vec::with_capacity(alloc, 1)?;
     let mut rest = tokens;
     for _ in 0..tokens.len() {
         let (test, after) = test(alloc, rest)?;

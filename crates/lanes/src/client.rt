@@ -150,6 +150,13 @@ impl<W: Work> Client<W> {
         self.mailbox.handed()
     }
 
+    /// Whether the end is closed for further requests.
+    pub fn is_closed(&self) -> bool
+        ensures { result ≡ (mail_of self.now).closed }
+    {
+        self.mailbox.is_closed()
+    }
+
     /// Whether each accepted request was handed its result.
     pub fn is_whole(&self) -> bool
         ensures { IsTrue result ↔ (accepted_in (mail_of self.now) ≡ (mail_of self.now).handed) }

@@ -13,8 +13,7 @@ use Rattle.feel_value.specs.Datum.{Datum}
 use Rattle.feel_value.specs.Limits.{is_value}
 use Rattle.feel_text.specs.Tests.{Tests}
 use Rattle.feel_text.specs.declared.class.Class.{Class}
-use Rattle.feel_text.specs.declared.sieve.Sieve.{Sieve}
-use Rattle.table_classes.specs.Classes.{AreRowsOf, AreSievesOf, IsBlockWord, IsRowOf, IsSieveAt, IsUnsetIn, MissesAt, TellsBlock, TellsBlocks, TellsBreaking, TellsColumn, TellsColumns, TellsRules, TellsUnset, TellsWord}
+use Rattle.table_classes.specs.Classes.{AreRowsOf, IsBlockWord, IsRowOf, IsUnsetIn, MissesAt, TellsBlock, TellsBlocks, TellsBreaking, TellsColumn, TellsColumns, TellsRules, TellsUnset, TellsWord}
 use Rattle.table_classes.specs.declared.classes.BlockWords.{BlockWords}
 use Rattle.table_classes.specs.declared.classes.ClassRules.{ClassRules}
 use Rattle.table_classes.specs.declared.classes.ColumnClasses.{ColumnClasses}
@@ -54,14 +53,8 @@ rule_told P i rules word x h here told = λ j r before there unset.
           subst P (sym same) told
     ]
 
-none_of_max : (a b : ℕ) → max a b ≡ 0 → (a ≡ 0) × (b ≡ 0)
+pub none_of_max : (a b : ℕ) → max a b ≡ 0 → (a ≡ 0) × (b ≡ 0)
 none_of_max a b e = elim (cases_lt a b) [ inl less ↦ absurd (omega (arith, less, e)) | inr more ↦ (omega (arith, more, e), omega (arith, more, e)) ]
-
--- what is not set in two words together is not set in each
-pub both_told : (class : Class) (column : ℕ) (rules : List (List Tests)) (a b word : ℕ) → TellsUnset (MissesAt class column) rules a → TellsUnset KeepLimits rules b → word ≡ bit_or a b → TellsWord rules column class word
-both_told class column rules a b word p q is = λ i r small there unset.
-    let parts = none_of_max (bit_at a i) (bit_at b i) (sym (ap (λ n. bit_at n i) is ∙ bit_at_or a b i) ∙ unset) in
-    record { missed = p i r small there parts.0; keeps = q i r small there parts.1 }
 
 -- ---- words of 64 rules
 
@@ -84,20 +77,6 @@ told_more P old new last h more told w x there =
       | inl before ↦ h w x before
       | inr at ↦ subst (λ k. P k x) (sym at.0) (subst (P (length old)) at.1 told)
     ]
-
--- the sieve of one rule more
-pub sieve_more : (column : ℕ) (rules : List (List Tests)) (old new : List Sieve) (last : Sieve) (x : List Tests) → AreSievesOf column rules old → new ≡ old ++ last ∷ [] → x ≡ get_or rules (length old) x
-    → IsSieveAt column x last → AreSievesOf column rules new
-sieve_more column rules old new last x h more here told =
-    told_more (λ i (sieve : Sieve). (rule : List Tests) → slice_get rules i ≡ Some rule → IsSieveAt column rule sieve) old new last h more
-    (λ rule there. subst (λ r. IsSieveAt column r last) (here ∙ get_or_from_slice_get rules (length old) rule x there) told)
-
--- the word of one class more
-pub class_more : (rules : List (List Tests)) (column : ℕ) (classes : List Class) (old new : List ℕ) (last : ℕ) (class : Class) → TellsBlock rules column classes old → new ≡ old ++ last ∷ []
-    → slice_get classes (length old) ≡ Some class → TellsWord rules column class last → TellsBlock rules column classes new
-class_more rules column classes old new last class h more here told = λ c word k there has.
-    told_more (λ c word. (k : Class) → slice_get classes c ≡ Some k → TellsWord rules column k word) old new last (λ c word before k has. h c word k before has) more
-    (λ k has. subst (λ x. TellsWord rules column x last) (same_Some class k (sym here ∙ has)) told) c word there k has
 
 -- the words of one block more
 pub block_told : (rules : List (List Tests)) (column : ℕ) (classes : List Class) (old new : List BlockWords) (last : BlockWords) (rest : List (List Tests)) → TellsBlocks rules column classes old

@@ -1,1 +1,4 @@
+pub mod Rising
+pub mod Marking
 pub mod ClassWords
+pub mod Marked

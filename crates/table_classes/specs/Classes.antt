@@ -39,10 +39,6 @@ pub record HasSieve (column : ℕ) (rule : List Tests) (sieve : Sieve) : Type 0 
 abbrev pub IsSieveAt : ℕ → List Tests → Sieve → Type 0
 IsSieveAt column rule sieve = is_narrow sieve ≡ true → HasSieve column rule sieve
 
--- each of these is a sieve of the rule at its place
-abbrev pub AreSievesOf : ℕ → List (List Tests) → List Sieve → Type 0
-AreSievesOf column rules sieves = (i : ℕ) (sieve : Sieve) → slice_get sieves i ≡ Some sieve → (rule : List Tests) → slice_get rules i ≡ Some rule → IsSieveAt column rule sieve
-
 -- of these rules, whose first stands at the lowest bit, this holds of each whose bit is not set
 abbrev pub TellsUnset : (List Tests → Type 0) → List (List Tests) → ℕ → Type 0
 TellsUnset P rules word = (i : ℕ) (rule : List Tests) → i < 64 → slice_get rules i ≡ Some rule → bit_at word i ≡ 0 → P rule

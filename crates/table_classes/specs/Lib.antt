@@ -1,2 +1,3 @@
 pub mod Unbroken
+pub mod Spans
 pub mod Classes

@@ -1,21 +1,26 @@
 //! Which rules a value can't hit, told by the class that it has in its column.
-ghost use Rattle.std.specs.Prelude.{◌≡◌, ◌<◌, ℕ, All, List, IfOk, IfSome, IsFalse, IsTrue, true, Some, map, slice_get};
+ghost use Rattle.std.specs.Prelude.{◌≡◌, ◌<◌, ℕ, All, List, IfOk, IfSome, IsFalse, IsTrue, true, Some, length, map, slice_get};
 ghost use Rattle.std.specs.Int.{bit_at};
 ghost use Rattle.feel_text.specs.Classes.{is_in_class};
 ghost use Rattle.feel_text.specs.Tests.{Tests as TestsData};
 ghost use Rattle.feel_text.specs.declared.class.Class.{Class as ClassData};
 ghost use Rattle.feel_value.specs.Datum.{text as text_datum};
 ghost use Rattle.feel_value.specs.View.{datum_of};
-ghost use Rattle.table_classes.specs.Classes.{AreRowsOf, AreSievesOf, IsRowOf, IsSieveAt, IsUnsetIn, MissesAt, TellsBlock, TellsBreaking, TellsBlocks, TellsColumn, TellsColumns, TellsRules, TellsUnset};
+ghost use Rattle.table_classes.specs.Classes.{AreRowsOf, IsRowOf, IsSieveAt, IsUnsetIn, MissesAt, TellsBlock, TellsBreaking, TellsBlocks, TellsColumn, TellsColumns, TellsRules, TellsUnset};
+ghost use Rattle.table_classes.specs.Spans.{AreSpans, IsUnsetAt, Stops};
 ghost use Rattle.table_classes.specs.Unbroken.{KeepLimits};
 
 use crate::entries::{HasTests, keep_limits};
-use feel_lang::{Class, MARKS, Sieve, Tests, mark};
+use crate::spans::{end_of, set_bits, spans_of, start_of};
+use feel_lang::{Class, MARKS, Sieve, Tests, mark as mark_of};
 use feel_value::{Feel, Value};
 use std::alloc::{AllocError, Global};
 
 /// The most numbers at which the numbers of a column are cut into classes.
 const MOST_CUTS: usize = 63;
+
+/// The most numbers of a column that are sorted to find them.
+const MOST_SORTED: usize = 4096;
 
 /// The classes of a column before those of texts, but for one for each cut: one more of numbers, null and two of booleans.
 const BEFORE_TEXTS: usize = 4;
@@ -76,67 +81,84 @@ fn sieve_at(rule: &[Tests], column: usize) -> Sieve
     }
 }
 
-/// The sieves of the first 64 of these rules.
-fn sieves_of<R: HasTests>(
-    alloc: Global,
-    rules: &[R],
-    column: usize,
-) -> Result<Vec<Sieve>, AllocError>
-    ensures { IfOk result (λ sieves. AreSievesOf column (map R.tests_of rules.now) sieves.items) }
-{
-    let mut sieves = Vec::with_capacity(alloc, WORD)?;
-    for i in 0..rules.len().min(WORD) {
-        sieves.push(sieve_at(rules[i].tests(), column))?;
-    }
-    Ok(sieves)
-}
-
-/// Whether a value of the class may meet a rule's entry in a column. The entry is asked.
-fn may_meet_entry(rule: &[Tests], column: usize, class: Class) -> bool
-    ensures { IsFalse result → MissesAt class column rule.now }
+/// Whether no value of the class meets a rule's entry in a column. The entry is asked. False says nothing.
+fn misses_entry(rule: &[Tests], column: usize, class: Class) -> bool
+    ensures { IsTrue result → MissesAt class column rule.now }
 {
     match rule.get(column) {
-        Some(tests) => !tests.misses(class),
-        None => true,
+        Some(tests) => tests.misses(class),
+        None => false,
     }
 }
 
-/// Whether a value of the class may meet a rule's entry in a column. The entry is asked only where its sieve doesn't know.
-fn may_meet(rule: &[Tests], column: usize, sieve: Sieve, class: Class) -> bool
-    requires { IsSieveAt column rule.now sieve }
-    ensures { IsFalse result → MissesAt class column rule.now }
+/// Sets a rule's bit in the words of the classes a value of which the sieve may let through.
+fn mark_sieved(words: &mut [u64], classes: &[Class], sieve: Sieve, bit: usize)
+    requires { bit < 64 }
+    ensures length { length words.new ≡ length words.old }
+    ensures kept { (k i : ℕ) → IsUnsetAt words.new k i → IsUnsetAt words.old k i }
+    ensures told { (k : ℕ) (class : ClassData) → slice_get classes.now k ≡ Some class → IsUnsetAt words.new k bit → Stops sieve class }
 {
-    if sieve.misses(class) {
-        return false;
-    }
-    match sieve {
-        Sieve::Unknown => may_meet_entry(rule, column, class),
-        _ => true,
-    }
-}
-
-/// The sieve at a place; one that doesn't know, where there is none.
-fn sieve_of(sieves: &[Sieve], place: usize) -> Sieve
-    ensures { (column : ℕ) (rules : List (List TestsData)) (rule : List TestsData) → AreSievesOf column rules sieves.now → slice_get rules place ≡ Some rule → IsSieveAt column rule result }
-{
-    match sieves.get(place) {
-        Some(sieve) => *sieve,
-        None => Sieve::Unknown,
-    }
-}
-
-/// The bits of the first 64 of these rules that may meet the class in a column, where they have these sieves.
-fn word_for<R: HasTests>(rules: &[R], column: usize, sieves: &[Sieve], class: Class) -> u64
-    requires { AreSievesOf column (map R.tests_of rules.now) sieves.now }
-    ensures { TellsUnset (MissesAt class column) (map R.tests_of rules.now) result }
-{
-    let mut word = 0;
-    for i in 0..rules.len().min(WORD) {
-        if may_meet(rules[i].tests(), column, sieve_of(sieves, i), class) {
-            word |= 1 << i;
+    for k in 0..classes.len().min(words.len()) {
+        if sieve.misses(classes[k]) {
+            continue;
         }
+        words[k] |= 1 << bit;
     }
-    word
+}
+
+/// The same of the classes a value of which may meet the rule's entry in a column. The entry is asked.
+fn mark_asked(words: &mut [u64], classes: &[Class], rule: &[Tests], column: usize, bit: usize)
+    requires { bit < 64 }
+    ensures length { length words.new ≡ length words.old }
+    ensures kept { (k i : ℕ) → IsUnsetAt words.new k i → IsUnsetAt words.old k i }
+    ensures told { (k : ℕ) (class : ClassData) → slice_get classes.now k ≡ Some class → IsUnsetAt words.new k bit → MissesAt class column rule.now }
+{
+    for k in 0..classes.len().min(words.len()) {
+        if misses_entry(rule, column, classes[k]) {
+            continue;
+        }
+        words[k] |= 1 << bit;
+    }
+}
+
+/// The same by the sieve of the entry, which is asked only where the sieve doesn't know. The classes of numbers stand first, so many
+/// of them, and rise.
+fn mark(
+    words: &mut [u64],
+    classes: &[Class],
+    numbers: usize,
+    rule: &[Tests],
+    column: usize,
+    bit: usize,
+)
+    requires bit { bit < 64 }
+    requires numbers { AreSpans classes.now numbers }
+    ensures length { length words.new ≡ length words.old }
+    ensures kept { (k i : ℕ) → IsUnsetAt words.new k i → IsUnsetAt words.old k i }
+    ensures told { (k : ℕ) (class : ClassData) → slice_get classes.now k ≡ Some class → IsUnsetAt words.new k bit → MissesAt class column rule.now }
+{
+    let sieve = sieve_at(rule, column);
+    match sieve {
+        Sieve::Numbers(low, high) => {
+            let from = start_of(classes, numbers, low);
+            let to = end_of(classes, numbers, high);
+            set_bits(words, from, to, bit);
+        }
+        Sieve::Texts(_) => mark_sieved(words, classes, sieve, bit),
+        Sieve::All => set_bits(words, 0, words.len(), bit),
+        Sieve::Unknown => mark_asked(words, classes, rule, column, bit),
+    }
+}
+
+/// So many words, all the same.
+fn same_words(alloc: Global, count: usize, word: u64) -> Result<Vec<u64>, AllocError>
+    ensures { IfOk result (λ words. (k other : ℕ) → slice_get words.items k ≡ Some other → other ≡ word) }
+{
+    let mut words = Vec::with_capacity(alloc, count)?;
+    for _ in 0..count {
+        words.push(word)?;
+    }
+    Ok(words)
 }
 
 /// The bits of the first 64 of these rules an entry of which may break a limit.
@@ -166,22 +188,23 @@ fn words_of_breaking<R: HasTests>(alloc: Global, rules: &[R]) -> Result<Vec<u64>
     Ok(words)
 }
 
-/// The words of the first 64 of these rules, one for each class. An entry of those of the bits `breaking` may break a limit.
+/// The words of the first 64 of these rules, one for each class. An entry of those of the bits `breaking` may break a limit. The
+/// classes of numbers stand first, so many of them, and rise.
 fn block_words<R: HasTests>(
     alloc: Global,
     rules: &[R],
     breaking: u64,
     column: usize,
     classes: &[Class],
+    numbers: usize,
 ) -> Result<BlockWords, AllocError>
-    requires { TellsUnset KeepLimits (map R.tests_of rules.now) breaking }
+    requires breaking { TellsUnset KeepLimits (map R.tests_of rules.now) breaking }
+    requires numbers { AreSpans classes.now numbers }
     ensures { IfOk result (λ block. TellsBlock (map R.tests_of rules.now) column classes.now block.words.items) }
 {
-    let sieves = sieves_of(alloc, rules, column)?;
-    let mut words = Vec::with_capacity(alloc, classes.len())?;
-    for class in classes {
-        let word = word_for(rules, column, &sieves, *class) | breaking;
-        words.push(word)?;
+    let mut words = same_words(alloc, classes.len(), breaking)?;
+    for i in 0..rules.len().min(WORD) {
+        mark(&mut words, classes, numbers, rules[i].tests(), column, i);
     }
     Ok(BlockWords { words })
 }
@@ -193,14 +216,16 @@ fn blocks_of<R: HasTests>(
     breaking: &[u64],
     column: usize,
     classes: &[Class],
+    numbers: usize,
 ) -> Result<Vec<BlockWords>, AllocError>
-    requires { TellsBreaking (map R.tests_of rules.now) breaking.now }
+    requires breaking { TellsBreaking (map R.tests_of rules.now) breaking.now }
+    requires numbers { AreSpans classes.now numbers }
     ensures { IfOk result (λ blocks. TellsBlocks (map R.tests_of rules.now) column classes.now blocks.items) }
 {
     let mut all = Vec::with_capacity(alloc, breaking.len())?;
     let mut rest = rules;
     for word in breaking {
-        all.push(block_words(alloc, rest, *word, column, classes)?)?;
+        all.push(block_words(alloc, rest, *word, column, classes, numbers)?)?;
         let (_, others) = rest.split_at(WORD.min(rest.len()));
         rest = others;
     }
@@ -266,10 +291,38 @@ fn has_texts<R: HasTests>(rules: &[R], column: usize) -> bool {
     count >= rules.len() / 4 && count > 0
 }
 
+/// How many classes of numbers stand first and rise; no class is left where they don't.
+fn numbers_first(classes: &mut Vec<Class>) -> usize
+    ensures { AreSpans classes.new.items result }
+{
+    match spans_of(classes) {
+        Some(count) => count,
+        None => {
+            classes.clear();
+            0
+        }
+    }
+}
+
 /// The bytes that so many classes of so many rules take.
 fn bytes_of(classes: usize, rules: usize) -> usize {
     let words = rules / WORD + 1;
     classes.saturating_mul(CLASS_BYTES.saturating_add(words.saturating_mul(8)))
+}
+
+/// At most so many of these numbers, one of each run of as many, at another place in each: so that rules which repeat don't hide
+/// what stands between them.
+fn spread(alloc: Global, numbers: &[i64], most: usize) -> Result<Vec<i64>, AllocError>
+    requires { 0 < most }
+{
+    let run = numbers.len() / most + 1;
+    let mut some = Vec::new(alloc);
+    for (i, number) in numbers.iter().enumerate() {
+        if i % run == i / run % run {
+            some.push(*number)?;
+        }
+    }
+    Ok(some)
 }
 
 /// Numbers at which what the rules ask of a column changes, rising; not all of them where there are many.
@@ -280,16 +333,10 @@ fn cuts_of<R: HasTests>(alloc: Global, rules: &[R], column: usize) -> Result<Vec
             tests.cuts(&mut all)?;
         }
     }
-    all.sort_unstable();
-    all.dedup();
-    let step = all.len() / MOST_CUTS + 1;
-    let mut cuts = Vec::new(alloc);
-    for (i, cut) in all.iter().enumerate() {
-        if i % step == 0 {
-            cuts.push(*cut)?;
-        }
-    }
-    Ok(cuts)
+    let mut some = spread(alloc, &all, MOST_SORTED)?;
+    some.sort_unstable();
+    some.dedup();
+    spread(alloc, &some, MOST_CUTS)
 }
 
 /// The classes with their rules, from the words of the blocks.
@@ -324,7 +371,8 @@ impl ColumnClasses {
         if bytes_of(classes.len(), rules.len()) > room {
             classes.clear();
         }
-        let blocks = blocks_of(alloc, rules, breaking, column, &classes)?;
+        let numbers = numbers_first(&mut classes);
+        let blocks = blocks_of(alloc, rules, breaking, column, &classes, numbers)?;
         let rows = rows_from(alloc, &blocks, &classes)?;
         Ok(ColumnClasses { cuts, rows })
     }
@@ -349,7 +397,7 @@ impl ColumnClasses {
         if self.rows.len() <= first {
             return None;
         }
-        let mark = mark(text);
+        let mark = mark_of(text);
         let row = self.rows.get(first + usize::from(mark))?;
         match row.class {
             Class::Texts(other) if other == mark => Some(row),

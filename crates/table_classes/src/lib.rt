@@ -3,6 +3,7 @@
 
 mod classes;
 mod entries;
+mod spans;
 
 pub use classes::{ClassRules, ColumnClasses, WORD, classes_of_columns, common, rows_of};
 pub use entries::{HasTests, keep_limits};

@@ -1,4 +1,4 @@
-use Rattle.std.proofs.Common.{◌≡◌, ◌∙◌, refl, sym, ap, subst, ◌<◌, List, true, arith, length, map}
+use Rattle.std.proofs.Common.{◌≡◌, ◌∙◌, refl, sym, ap, subst, ◌<◌, ◌++◌, List, true, IsTrue, arith, length, map}
 use Rattle.std.specs.List.{All}
 use Rattle.std.proofs.lemmas.List.{length-map}
 use Rattle.std.proofs.lemmas.List.Elements.{All-weaker}
@@ -7,7 +7,7 @@ use Rattle.feel_value.specs.Limits.{is_value}
 use Rattle.dmn_table.specs.Parts.{rule_view}
 use Rattle.dmn_table.specs.Table.{Rule}
 use Rattle.dmn_analysis.specs.Cells.{AreIn}
-use Rattle.dmn_analysis.specs.Claims.{AreKnown, IsInGap}
+use Rattle.dmn_analysis.specs.Claims.{AreKnown, IsInGap, KeepLimits}
 use Rattle.dmn_analysis.specs.Constant.{AreConstant}
 use Rattle.dmn_analysis.specs.Joining.{AreCovered, AreMissed}
 use Rattle.dmn_analysis.specs.Searching.{IsBare, Scene}
@@ -15,7 +15,7 @@ use Rattle.dmn_analysis.specs.Telling.{IsDealtWith, IsToldGap}
 use Rattle.dmn_analysis.specs.Whole.{AreWhole}
 use Rattle.dmn_analysis.specs.declared.found.Gaps.{Gaps}
 use Rattle.dmn_analysis.specs.declared.gaps.Bare.{Bare}
-use Rattle.dmn_analysis.proofs.Answering.{in_told, missed_from_bare, tells_gaps}
+use Rattle.dmn_analysis.proofs.Answering.{both_empty, in_told, missed_from_bare, tells_gaps}
 use Rattle.dmn_analysis.proofs.Searches.{steps_left}
 use Rattle.dmn_analysis.proofs.gap_answers.find_gaps.Goals as goal
 
@@ -39,12 +39,15 @@ returns-clause-tells c =
     let knows = c.in_ok-search.ensures.known s (sym c.deref-2.ensures.value) (in_rows c.deref-3.result.now c.deref-3.ensures.value) same_count refl refl in
     let bare = c.in_ok-all.ensures.bare s (sym c.deref-4.ensures.value) (in_rows c.deref-5.result.now c.deref-5.ensures.value) long knows.bare in
     let told = c.in_ok-told.ensures.each s (sym rules) (subst (All (IsBare s)) (sym c.deref-7.ensures.value) bare) in
+    let opened = λ (sure : IsTrue c.are_all-is_all.result).
+    both_empty search.open.items c.in_ok-broken.broken.items (sym (c.in_ok-open.ensures ∙ ap (λ xs. search.open.items ++ xs) c.deref-8.ensures.value) ∙ sym c.deref-10.ensures.value ∙ (c.are_all-is_all.ensures.done sure).1) in
     tells_gaps t asked cells first search gaps (long ∙ ap length inputs) c.in_ok-words.ensures.order (subst (λ ws. AreWhole ws asked cells) c.deref.ensures.value whole)
     (λ r less. c.in_ok-left.ensures.each r (omega (arith, less, same_count))) knows (subst (λ is. All (IsToldGap s (length is)) gaps.found.items) inputs told)
     (λ sure zero. All-weaker (λ (b : Bare). AreCovered b.cells.items all) (λ (b : Bare). (values : List Datum) → length values ≡ length cells → All (λ v. is_value v ≡ true) values → AreIn words.items b.cells.items values → IsInGap words.items gaps.found.items values) (λ b covered.
     in_told s words.items gaps.found.items all b.cells.items covered bare
     (subst (λ ws. All (λ (b : Bare). IsDealtWith ws gaps.found.items b.cells.items) all) c.deref-6.ensures.value (subst (All (λ (b : Bare). IsDealtWith c.deref-6.result.now gaps.found.items b.cells.items)) c.deref-7.ensures.value (c.in_ok-told.ensures.all (c.are_all-is_all.ensures.told sure) zero)))) search.bare.items c.in_ok-all.ensures.covered)
-    (λ sure. let done = c.are_all-is_all.ensures.done sure in (sym c.deref-8.ensures.value ∙ done.0, sym c.deref-9.ensures.value ∙ done.1))
+    (λ sure. let done = c.are_all-is_all.ensures.done sure in (sym c.deref-9.ensures.value ∙ done.0, (opened sure).0))
+    (λ sure. subst KeepLimits rules (c.in_ok-broken.ensures.kept ((opened sure).1)))
 
 pub returns-clause-decides : goal.returns-clause-decides
 returns-clause-decides c = λ constant known positive less.
@@ -66,7 +69,7 @@ returns-clause-decides c = λ constant known positive less.
     let missed_here = subst (λ ws. All (AreMissed ws (map rule_view c.rules-rules.result.now) count) c.deref-7.result.now) (sym c.deref-6.ensures.value)
     (subst (λ bs. All (AreMissed words (map rule_view c.rules-rules.result.now) count) bs) (sym c.deref-7.ensures.value) (subst (λ rs. All (AreMissed words rs count) all) (sym rules) missed)) in
     record {
-      all = c.are_all-is_all.ensures.all (c.in_ok-told.ensures.decided constants missed_here) (c.deref-8.ensures.value ∙ c.in_ok-search.ensures.ended refl (steps_left c.args.steps c.go_through.new.steps (subst (λ n. n < c.args.steps) c.saturating_sub.ensures less))) (c.deref-9.ensures.value ∙ c.in_ok-search.ensures.decided (subst AreConstant (in_rows c.deref-3.result.now c.deref-3.ensures.value) constant));
+      all = c.are_all-is_all.ensures.all (c.in_ok-told.ensures.decided constants missed_here) (c.deref-9.ensures.value ∙ c.in_ok-search.ensures.ended refl (steps_left c.args.steps c.go_through.new.steps (subst (λ n. n < c.args.steps) c.saturating_sub.ensures less))) (c.deref-10.ensures.value ∙ c.in_ok-open.ensures ∙ ap (λ xs. xs ++ c.deref-8.result.now) (c.in_ok-search.ensures.decided (subst AreConstant (in_rows c.deref-3.result.now c.deref-3.ensures.value) constant)) ∙ c.deref-8.ensures.value ∙ c.in_ok-broken.ensures.none constants);
       one = c.in_ok-told.ensures.one positive;
     }
 

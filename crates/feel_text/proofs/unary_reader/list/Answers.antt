@@ -7,7 +7,7 @@ use Rattle.feel_text.proofs.unary_reader.list.Goals as goal
 
 pub returns-in_err-test : goal.returns-in_err-test
 returns-in_err-test c =
-    let p = err_from_is_err_and c.from_residual.result c.from_residual.ensures.1 in
+    let p = err_from_is_err_and c.from_residual-in_err-test.result c.from_residual-in_err-test.ensures.1 in
     let lt : c.loop.counter < length c.args.tokens.now = omega arith in
     rw (p.1, p.2) (ends_fault c.in_err-test.field-0.0 (length c.args.tokens.now) c.loop.counter (test_views c.loop.tests.items) (views c.loop.rest.now) _ lt c.in_err-test.ensures c.loop.invariant)
 

@@ -8,8 +8,11 @@ block_words-requires g c =
     let rules = c.args.rules.now in
     let rest = c.loop-word.rest.now in
     let count = length c.loop-word.all.items in
-    breaking_at (map g.R.HasTests.tests_of rules) c.args.breaking.now count c.loop-word.word-index (map g.R.HasTests.tests_of rest) c.requires c.loop-word.invariant.count
-    (entries_left g.R.HasTests.tests_of rules rest (64 * count) c.loop-word.invariant.left) c.loop-word-test.true
+    record {
+      breaking = breaking_at (map g.R.HasTests.tests_of rules) c.args.breaking.now count c.loop-word.word-index (map g.R.HasTests.tests_of rest) c.requires.breaking c.loop-word.invariant.count
+          (entries_left g.R.HasTests.tests_of rules rest (64 * count) c.loop-word.invariant.left) c.loop-word-test.true;
+      numbers = c.requires.numbers;
+    }
 
 pub loop-word-preserved : goal.loop-word-preserved
 loop-word-preserved g c =

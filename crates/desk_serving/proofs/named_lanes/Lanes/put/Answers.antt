@@ -16,9 +16,11 @@ submit-requires g c =
     let was = c.args.self.now in let self = c.loop.self in let place = c.args.place in
     let few : place < length (names_in self) = subst (λ (ns : List (List ℕ)). place < length ns) (sym c.loop.invariant.names) c.requires.place in
     let lane = there_at (lanes_in was) place (lanes_inside was place c.requires.place).1 in
-    let put = (same_at (lanes_in was) (lanes_in self) place (lane_of c.index_mut.result.now) lane.0 c.loop.invariant.hands.handed.lanes
-    (lane_at self.clients.items place c.index_mut.result.now (lanes_inside self place few).0 c.index_mut.ensures.value) lane.1).0 in
-    record { few = subst (λ (qs : List Request). length qs < 2 ^ 60) (sym put) (c.requires.few lane.0 lane.1) }
+    let same = same_at (lanes_in was) (lanes_in self) place (lane_of c.index_mut.result.now) lane.0 c.loop.invariant.hands.handed.lanes
+    (lane_at self.clients.items place c.index_mut.result.now (lanes_inside self place few).0 c.index_mut.ensures.value) lane.1 in record {
+      few = subst (λ (qs : List Request). length qs < 2 ^ 60) (sym same.0) (c.requires.few lane.0 lane.1);
+      «open» = same.1 ∙ c.requires.«open» lane.0 lane.1;
+    }
 
 pub returns-in_err-submit-clause-same : goal.returns-in_err-submit-clause-same
 returns-in_err-submit-clause-same g c =
@@ -28,14 +30,6 @@ pub returns-in-Accepted-clause-same : goal.returns-in-Accepted-clause-same
 returns-in-Accepted-clause-same g c =
     links_kept client_links c.loop.self.clients.items c.args.place c.index_mut.result.now c.submit.new.client c.index_mut.ensures.value c.submit.ensures.same ∙ c.loop.invariant.links
 
-pub returns-in-Accepted-clause-open : goal.returns-in-Accepted-clause-open
-returns-in-Accepted-clause-open g c = λ lane at.
-    let was = c.args.self.now in let self = c.loop.self in let place = c.args.place in let inv = c.loop.invariant in let old = c.index_mut.result.now in
-    let few : place < length (names_in self) = subst (λ (ns : List (List ℕ)). place < length ns) (sym inv.names) c.requires.place in
-    let here = lane_at self.clients.items place old (lanes_inside self place few).0 c.index_mut.ensures.value in
-    let told = rw c.in-Accepted.is at c.in_ok-submit.ensures.submits in
-    sym (same_at (lanes_in was) (lanes_in self) place (lane_of old) lane inv.hands.handed.lanes here at).1 ∙ told.0
-
 pub returns-in-Accepted-clause-lanes : goal.returns-in-Accepted-clause-lanes
 returns-in-Accepted-clause-lanes g c = λ lane at.
     let was = c.args.self.now in let self = c.loop.self in let place = c.args.place in let inv = c.loop.invariant in let old = c.index_mut.result.now in
@@ -43,7 +37,7 @@ returns-in-Accepted-clause-lanes g c = λ lane at.
     let here = lane_at self.clients.items place old (lanes_inside self place few).0 c.index_mut.ensures.value in
     let told = rw c.in-Accepted.is at c.in_ok-submit.ensures.submits in
     let all : map (λ client. lane_of client) (slice_set self.clients.items place c.submit.new.client) ≡ slice_set (lanes_in self) place (with_put (lane_of old) (arc_value c.args.work)) =
-    lanes_set self.clients.items place c.submit.new.client ∙ ap (λ (l : Lane). slice_set (lanes_in self) place l) (told.1 ∙ ap (λ (q : Request). with_put (lane_of old) q) inv.work) in
+    lanes_set self.clients.items place c.submit.new.client ∙ ap (λ (l : Lane). slice_set (lanes_in self) place l) (told ∙ ap (λ (q : Request). with_put (lane_of old) q) inv.work) in
     ap unhanded all ∙ put_unhanded (lanes_in was) (lanes_in self) place (lane_of old) lane (arc_value c.args.work) inv.hands.handed.lanes here at
 
 pub returns-in-Accepted-clause-put : goal.returns-in-Accepted-clause-put
@@ -53,29 +47,10 @@ returns-in-Accepted-clause-put g c = λ name lane named at.
     let here = lane_at self.clients.items place old (lanes_inside self place few).0 c.index_mut.ensures.value in
     let told = rw c.in-Accepted.is at c.in_ok-submit.ensures.submits in
     let all : map (λ client. lane_of client) (slice_set self.clients.items place c.submit.new.client) ≡ slice_set (lanes_in self) place (with_put (lane_of old) (arc_value c.args.work)) =
-    lanes_set self.clients.items place c.submit.new.client ∙ ap (λ (l : Lane). slice_set (lanes_in self) place l) (told.1 ∙ ap (λ (q : Request). with_put (lane_of old) q) inv.work) in
+    lanes_set self.clients.items place c.submit.new.client ∙ ap (λ (l : Lane). slice_set (lanes_in self) place l) (told ∙ ap (λ (q : Request). with_put (lane_of old) q) inv.work) in
     subst (λ (ls : List Lane). HandsThen (names_in was) (lanes_in was) ls (Reply name (length lane.put) (request_result (arc_value c.args.work))) c.args.text.now.items c.loop.text.items)
     (sym all)
     (put_then (names_in was) (lanes_in was) (lanes_in self) place name (lane_of old) lane (arc_value c.args.work) c.args.text.now.items c.loop.text.items was.distinct named here at (handed_within old) inv.hands)
-
-pub returns-in-Closed-clause-same : goal.returns-in-Closed-clause-same
-returns-in-Closed-clause-same g c =
-    links_kept client_links c.loop.self.clients.items c.args.place c.index_mut.result.now c.submit.new.client c.index_mut.ensures.value c.submit.ensures.same ∙ c.loop.invariant.links
-
-pub returns-in-Closed-clause-open : goal.returns-in-Closed-clause-open
-returns-in-Closed-clause-open g c = λ lane at.
-    let was = c.args.self.now in let self = c.loop.self in let place = c.args.place in let inv = c.loop.invariant in let old = c.index_mut.result.now in
-    let few : place < length (names_in self) = subst (λ (ns : List (List ℕ)). place < length ns) (sym inv.names) c.requires.place in
-    let here = lane_at self.clients.items place old (lanes_inside self place few).0 c.index_mut.ensures.value in
-    let told = rw c.in-Closed.is at c.in_ok-submit.ensures.submits in
-    sym (same_at (lanes_in was) (lanes_in self) place (lane_of old) lane inv.hands.handed.lanes here at).1 ∙ told.0
-
-pub returns-in-Closed-clause-closed : goal.returns-in-Closed-clause-closed
-returns-in-Closed-clause-closed g c =
-    let was = c.args.self.now in let self = c.loop.self in let place = c.args.place in let inv = c.loop.invariant in let old = c.index_mut.result.now in
-    let told = rw c.in-Closed.is at c.in_ok-submit.ensures.submits in
-    subst (λ (ls : List Lane). Hands (names_in was) (lanes_in was) ls c.args.text.now.items c.loop.text.items)
-    (sym (links_kept lane_of self.clients.items place old c.submit.new.client c.index_mut.ensures.value told.1)) inv.hands
 
 pub returns-in_err-hand_out-clause-same : goal.returns-in_err-hand_out-clause-same
 returns-in_err-hand_out-clause-same g c =

@@ -32,3 +32,7 @@ returns-in_default-clause-known c = λ s words rules knows left rising.
     subst (λ cs. All (IsMustHit c.args.words.now seen cs) found) c.deref-4.ensures.value (subst (All (IsMustHit c.args.words.now seen c.deref-4.result.now)) c.deref-5.ensures.value (c.first_unsure.ensures.must c.in_default.is)) in
     c.in_ok-share.ensures.known s words knows (subst (λ ws. All (IsMustHit ws s.rules cells) found) (sym words) (subst (λ rs. All (IsMustHit c.args.words.now rs cells) found) (sym rules) must))
     (c.in_ok-left.ensures.rising (subst IsRising (sym c.deref-2.ensures.value) rising))
+
+pub returns-in_default-2-clause-known : goal.returns-in_default-2-clause-known
+returns-in_default-2-clause-known c = λ s words rules knows left rising.
+    c.in_ok-leave.ensures s words rules knows (c.in_ok-left.ensures.rising (subst IsRising (sym c.deref-2.ensures.value) rising))

@@ -1,11 +1,11 @@
 use Rattle.std.proofs.Common.{◌∙◌, ◌≤◌, sym, ap, take, arith, length}
 use Rattle.std.proofs.lemmas.List.{length_push}
-use Rattle.feel_eval.specs.Index.{bindings_of}
+use Rattle.feel_eval.specs.Index.{bindings_of, name_of, value_of, hidden_of, place_in}
 use Rattle.feel_eval.proofs.Index.{bound_less, last_is_there, before}
 use Rattle.feel_eval.proofs.indexed.Indexed.cut.Goals as goal
 
 pub uncover-requires : goal.uncover-requires
-uncover-requires c = last_is_there c.pop.new.self.items c.in-Some.binding c.loop-self.self-inside.places (rw c.in-Some.ensures.items at c.loop-self.invariant.indexed)
+uncover-requires c = last_is_there name_of value_of hidden_of c.pop.new.self.items c.in-Some.binding (place_in c.loop-self.self-inside.places) (rw c.in-Some.ensures.items at c.loop-self.invariant.indexed)
 
 pub loop-self-preserved-in-Some : goal.loop-self-preserved-in-Some
 loop-self-preserved-in-Some c =
@@ -14,6 +14,6 @@ loop-self-preserved-in-Some c =
     let shorter : c.args.len ≤ length xs = omega (arith, ap length c.in-Some.ensures.items, length_push xs x) in
     record {
       within = shorter;
-      indexed = bound_less xs x c.loop-self.self-inside.places c.uncover.new.self (rw c.in-Some.ensures.items at c.loop-self.invariant.indexed) c.uncover.ensures;
-      kept = sym (before c.args.len xs x shorter) ∙ ap (λ ys. take c.args.len (bindings_of ys)) (sym c.in-Some.ensures.items) ∙ c.loop-self.invariant.kept;
+      indexed = bound_less name_of value_of hidden_of xs x (place_in c.loop-self.self-inside.places) (place_in c.uncover.new.places) (rw c.in-Some.ensures.items at c.loop-self.invariant.indexed) c.uncover.ensures;
+      kept = sym (before name_of value_of c.args.len xs x shorter) ∙ ap (λ ys. take c.args.len (bindings_of ys)) (sym c.in-Some.ensures.items) ∙ c.loop-self.invariant.kept;
     }

@@ -1,0 +1,31 @@
+use Rattle.std.proofs.Common.{◌≡◌, ◌∙◌, List, Some, length, slice_get, slice_set, refl, sym, ap}
+use Rattle.std.specs.Arc.{arc_value}
+use Rattle.dmn_plan.specs.Request.{request_result}
+use Rattle.desk_wire.specs.Reports.{Reply}
+use Rattle.desk_requests.proofs.Names.{get_inside}
+use Rattle.desk_serving.specs.LanesView.{lanes_in, names_in}
+use Rattle.desk_serving.specs.Owed.{Lane, unhanded, with_put}
+use Rattle.desk_serving.proofs.Hearing.{on_ok_both}
+use Rattle.desk_serving.proofs.Settling.{is_answered, seat_found}
+use Rattle.desk_serving.proofs.state.State.put.Goals as goal
+
+pub name_at-requires : goal.name_at-requires
+name_at-requires g c = c.requires.seat.0
+
+pub put-requires : goal.put-requires
+put-requires g c =
+    let there = λ (lane : Lane) (at : slice_get (lanes_in c.name_at.new.self) c.args.seat.place ≡ Some lane). ap (λ (ls : List Lane). slice_get ls c.args.seat.place) (sym c.name_at.ensures.lanes) ∙ at in record {
+      place = get_inside (names_in c.name_at.new.self) c.args.seat.place c.args.name.now (seat_found c.args.self.now.lanes c.name_at.new.self c.args.name.now c.args.seat c.requires.seat c.in_ok-name_at.ensures.names);
+      few = λ lane at. c.requires.few c.args.seat.place lane (there lane at);
+      «open» = λ lane at. sym (c.requires.seat.1 lane (there lane at)) ∙ c.requires.yet;
+    }
+
+pub returns-clause-answers : goal.returns-clause-answers
+returns-clause-answers g c =
+    let old = c.args.self.now in let mid = c.name_at.new.self in let n = c.args.name.now in let place = c.args.seat.place in let q = arc_value c.args.work in
+    let same = c.name_at.ensures.lanes in
+    on_ok_both c.put.result (λ puts hands lane at.
+    let there : slice_get (lanes_in mid) place ≡ Some lane = ap (λ (ls : List Lane). slice_get ls place) same ∙ at in
+    is_answered old _ mid n (slice_set (lanes_in old.lanes) place (with_put lane q)) (Reply n (length lane.put) (request_result q)) _ _ refl same c.in_ok-name_at.ensures.names c.put.ensures.names
+    (puts lane there ∙ ap (λ (ls : List Lane). unhanded (slice_set ls place (with_put lane q))) same)
+    (hands n lane (seat_found old.lanes mid n c.args.seat c.requires.seat c.in_ok-name_at.ensures.names) there)) c.put.ensures.lanes c.put.ensures.put
