@@ -1,6 +1,6 @@
 -- Reasons are members that are added.
-use Rattle.std.proofs.Common.{◌≡◌, ℕ, Bool, true, false, nat_le, length, List, Option, codes, refl, ap, ◌∙◌, if◌then◌else◌}
-use Rattle.serde_json.specs.Data.{Data, Items, Members, array, member, object}
+use Rattle.std.proofs.Common.{◌≡◌, ℕ, Bool, true, false, nat_le, length, List, codes, refl, ap, ◌∙◌, if◌then◌else◌}
+use Rattle.serde_json.specs.Data.{Items, Members, array, member, object}
 use Rattle.serde_json.specs.Written.{compact_text}
 use Rattle.feel_value.specs.declared.feel.Outcome.{Outcome}
 use Rattle.feel_value.specs.declared.feel.Outcome.TheVariants.{Is, Limit}
@@ -8,9 +8,9 @@ use Rattle.json_writer.specs.Bounded.{most_bytes}
 use Rattle.desk_wire.specs.Parts.{with_name, with_number, with_word}
 use Rattle.desk_wire.specs.Reports.{Report, Loaded, Faulty, Refused, Of, Reply, report_json}
 use Rattle.desk_wire.specs.declared.word.Word.TheVariants as word
-use Rattle.desk_requests.specs.Line.{Line, Model, Request, Close, Resize}
-use Rattle.desk_explaining.specs.Due.{IsExplained, explanation, result_told, sum_of}
-use Rattle.desk_explaining.specs.Reasons.{ReasonsAreAdded, only, only_in, reply_keys, without_reasons}
+use Rattle.desk_requests.specs.Line.{Model, Request}
+use Rattle.desk_explaining.specs.Due.{explanation, result_told, sum_of}
+use Rattle.desk_explaining.specs.Reasons.{ReasonsAreAdded, only_in, reply_keys, without_reasons}
 
 -- whether the decisions are long, which b says, and whatever they are, the reply stands
 by_length : (name : List ℕ) (k : ℕ) (text service : List ℕ) (given : Members) (decisions : Items) (outcome : Outcome) (t : ℕ) (b : Bool)
@@ -47,5 +47,4 @@ added misses k model (Request n s i) (Refused line why) answer is = is
 added misses k model (Request n s i) (Of client line told) answer is = is
 added misses k model (Request n s i) (Reply client t outcome) answer is =
     ap (only_in reply_keys) is.7 ∙ replied client k is.0 s is.4 is.5 outcome t
-added misses k model (Close n) report answer is = ap (without_reasons report) is ∙ plain report
-added misses k model (Resize n c) report answer is = ap (without_reasons report) is ∙ plain report
+added misses k model line report answer is = ap (without_reasons report) is ∙ plain report

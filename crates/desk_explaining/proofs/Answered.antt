@@ -18,10 +18,9 @@ use Rattle.desk_wire.specs.declared.heard.Heard.TheVariants as heard
 use Rattle.desk_wire.specs.declared.report.Report as held
 use Rattle.desk_wire.specs.declared.report.Report.TheVariants as report
 use Rattle.desk_wire.specs.declared.word.Word.TheVariants as word
-use Rattle.desk_requests.specs.Due.{line_answer, model_answer}
-use Rattle.desk_requests.specs.Line.{AreRead, Line, Model, Request, Close, Resize, Reads}
+use Rattle.desk_requests.specs.Due.{model_answer}
+use Rattle.desk_requests.specs.Line.{Line, Model, Request, Reads, line_view}
 use Rattle.desk_requests.specs.LineHeard.{IsLineOf}
-use Rattle.desk_requests.specs.LineView.{line_view}
 use Rattle.desk_requests.specs.Register.{Answers, AsksBy, StandsAfter, client_after, force_of, is_on_client, is_on_model}
 use Rattle.desk_requests.specs.State.{in_force, newer_model, number_after}
 use Rattle.desk_requests.specs.declared.line.Line as asking
@@ -30,7 +29,7 @@ use Rattle.desk_requests.specs.declared.register.Asked.{Asked}
 use Rattle.desk_requests.proofs.Fewness.{no_line}
 use Rattle.desk_requests.proofs.Readings.{read-length}
 use Rattle.desk_explaining.proofs.Counting.{takes_own}
-use Rattle.desk_explaining.specs.Due.{IsAnswer, IsExplained, explanation, loaded, sum_of}
+use Rattle.desk_explaining.specs.Due.{IsExplained, explanation, loaded}
 use Rattle.desk_explaining.specs.Script.{AreAnswered}
 use Rattle.desk_explaining.specs.StateView.{Adds, After, Explains, HasSum, Hears, HearsText, Loads, Stands, model_of}
 use Rattle.desk_explaining.specs.declared.state.State.{State}
@@ -51,9 +50,7 @@ explained_on_client misses k model line (Faulty j f) e = cc
 explained_on_client misses k model line (Refused j why) e = cc
 explained_on_client misses k model line (Reply n t o) e = cc
 explained_on_client misses k model (Model json) (Of n j what) e = refl
-explained_on_client misses k model (Request n s i) (Of m j what) e = refl
-explained_on_client misses k model (Close n) (Of m j what) e = refl
-explained_on_client misses k model (Resize n c) (Of m j what) e = refl
+explained_on_client misses k model line (Of n j what) e = refl
 
 -- the sum stays where the model does
 same_sum : (old new : State) (lanes : ℕ) (earlier later : List (Reading Line)) → Stands old lanes earlier → StandsAfter lanes new.register later → in_force later ≡ in_force earlier → new.sum ≡ old.sum → HasSum new
@@ -111,9 +108,7 @@ pub hears_told : (old new : State) (k : ℕ) (line : Line) (r : held.Report) (te
     → AsksBy (force_of old.register) line (answer.Told r) → ((j : ℕ) → r ≢ report.Loaded j) → new.sum ≡ old.sum → Adds text (report_json (report_view r)) text'
     → Hears old k (Says line) text text' new
 hears_told old new k (Model json) r text text' answers asks never sum adds = hears_faulty old new k json r text text' answers asks (no_loaded r never) sum adds
-hears_told old new k (Request n s i) r text text' answers asks never sum adds = hears_on_client old new k (Request n s i) r text text' answers (λ earlier. refl) asks sum adds
-hears_told old new k (Close n) r text text' answers asks never sum adds = hears_on_client old new k (Close n) r text text' answers (λ earlier. refl) asks sum adds
-hears_told old new k (Resize n c) r text text' answers asks never sum adds = hears_on_client old new k (Resize n c) r text text' answers (λ earlier. refl) asks sum adds
+hears_told old new k line r text text' answers asks never sum adds = hears_on_client old new k line r text text' answers (λ earlier. refl) asks sum adds
 
 -- a model that came in force
 loaded_is : {M : Type 0} (json : Data) (r : Result M ModelFault) (k j : ℕ) (force : Option (List ℕ)) → Loaded j ≡ model_answer k r
@@ -123,9 +118,6 @@ loaded_is json (Err f) k j force e = cc
 
 pub hears_loaded : (old between new : State) (k j : ℕ) (line : Line) (text text' : List ℕ) → Answers old.register k line (answer.Told (report.Loaded j)) between.register
     → AsksBy (force_of old.register) line (answer.Told (report.Loaded j)) → new.register ≡ between.register → Loads between k text text' new → Hears old k (Says line) text text' new
-hears_loaded old between new k j (Request n s i) text text' answers asks same loads = cc
-hears_loaded old between new k j (Close n) text text' answers asks same loads = cc
-hears_loaded old between new k j (Resize n c) text text' answers asks same loads = cc
 hears_loaded old between new k j (Model json) text text' answers asks same loads = λ lanes earlier s num.
     let a = answers lanes earlier s.register num in
     let is = loaded_is json (read_model json) (number_after earlier) j (in_force earlier) a.0 in
@@ -136,13 +128,11 @@ hears_loaded old between new k j (Model json) text text' answers asks same loads
       one_more text text' d (subst (λ i. Adds text (loaded i json) text') num (loads.says json force)),
       record { register = subst (λ r. StandsAfter lanes r (Says (Model json) ∷ earlier)) (sym same) a.1; sum = loads.sum },
     )
+hears_loaded old between new k j line text text' answers asks same loads = cc
 
 -- a reply, with its reasons
 pub hears_asked : (old new : State) (k : ℕ) (line : Line) (asked : Asked) (text text' : List ℕ) → Answers old.register k line (answer.Asked asked) new.register
     → AsksBy (force_of old.register) line (answer.Asked asked) → new.sum ≡ old.sum → Explains k (string_bytes old.sum) asked old.misses text text' → Hears old k (Says line) text text' new
-hears_asked old new k (Model json) asked text text' answers asks sum explains = absurd asks
-hears_asked old new k (Close n) asked text text' answers asks sum explains = absurd asks
-hears_asked old new k (Resize n c) asked text text' answers asks sum explains = absurd asks
 hears_asked old new k (Request n s i) asked text text' answers asks sum explains = λ lanes earlier stands num.
     let a = answers lanes earlier stands.register num in
     let task = asks.2 in
@@ -161,6 +151,7 @@ hears_asked old new k (Request n s i) asked text text' answers asks sum explains
       one_more text text' d e.3,
       record { register = a.1; sum = same_sum old new lanes earlier (Says (Request n s i) ∷ earlier) stands a.1 refl sum },
     )
+hears_asked old new k line asked text text' answers asks sum explains = absurd asks
 
 -- ---- lines by their bytes
 

@@ -1,7 +1,7 @@
 //! What is answered to each line.
 ghost use Rattle.std.specs.Prelude.{◌≡◌, OnOk, Some};
 ghost use Rattle.desk_wire.specs.Reading.{Says};
-ghost use Rattle.desk_requests.specs.LineView.{line_view};
+ghost use Rattle.desk_requests.specs.Line.{line_view};
 ghost use Rattle.desk_requests.specs.Register.{force_of};
 ghost use Rattle.desk_explaining.specs.StateView.{Hears, Loads};
 

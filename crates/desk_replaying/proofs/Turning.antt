@@ -21,10 +21,10 @@ use Rattle.box_core.proofs.Bridge.{continues_one, continues_none, standing_of_hi
 use Rattle.dmn_plan.specs.Request.{Request, request_result}
 use Rattle.dmn_plan.specs.ReadModel.{read_model}
 use Rattle.feel_value.specs.declared.feel.Outcome.{Outcome}
-use Rattle.desk_replaying.specs.Line.{Line, Model, Open, Submit, Take, Answer, AnswerWith, Release, Close, Resize}
+use Rattle.desk_replaying.specs.Line.{Line, Model, Open, Answer}
 use Rattle.desk_wire.specs.Reading.{Says}
 use Rattle.desk_replaying.specs.State.{Deed, Loaded, Faulty, Asked, Refused, Turn, pair_of, history, opened_by, opened, newer, in_force_after, in_force, taken_work}
-use Rattle.desk_replaying.specs.Due.{Due, Loads, Faults, Refuses, Asks, due_to, due_to_model, due_to_open, due_to_work, due_to_answer, IsDone, IsDue, number_of, client_of, request_under, asks_with, MayLackMemory, Follows}
+use Rattle.desk_replaying.specs.Due.{Due, Loads, Faults, Refuses, Asks, due_to, due_to_model, due_to_open, due_to_work, due_to_answer, IsDone, IsDue, number_of, client_of, asks_with, MayLackMemory, Follows}
 use Rattle.desk_replaying.specs.Reports.{said_of}
 use Rattle.desk_wire.specs.Reports as wire
 use Rattle.desk_wire.specs.Reports.{texts_of}
@@ -149,7 +149,7 @@ number_same state name =
     let count = length-map state.names.items string_bytes in
     rw (place, count) refl
 
-client_same : {C : Type 0} {G : Ghosts C} (state : State C G) (name : List ℕ) → client_of (names_of state) name ≡ client_in state name
+pub client_same : {C : Type 0} {G : Ghosts C} (state : State C G) (name : List ℕ) → client_of (names_of state) name ≡ client_in state name
 client_same state name = rw (number_same state name, length-map state.names.items string_bytes) refl
 
 -- the broker is asked
@@ -170,14 +170,7 @@ heard_asked old new says event (effect.Refused w) none is h = absurd h
 
 opens_none : (says : Line) (why : Word) → opened_by (Says says) (Refused why) ≡ []
 opens_none (Model json) why = refl
-opens_none (Open name n) why = refl
-opens_none (Submit name service inputs) why = refl
-opens_none (Take name t) why = refl
-opens_none (Answer name t) why = refl
-opens_none (AnswerWith name t service inputs) why = refl
-opens_none (Release name) why = refl
-opens_none (Close name) why = refl
-opens_none (Resize name n) why = refl
+opens_none line why = refl
 
 -- the front refuses
 heard_refused : {C : Type 0} {G : Ghosts C} (old new : State C G) (says : Line) (why : Word) → IsDueTo old says (Refuses why) → new ≡ old → HasEffect old says (effect.Refused why) new
@@ -460,33 +453,6 @@ own_repeated old new client t (Some Unknown) told own is same = let wrong : ⊥ 
 own_repeated old new client t (Some (Waiting work)) told own is same = let wrong : ⊥ = cc in absurd wrong
 own_repeated old new client t (Some (Running work)) told own is same = let wrong : ⊥ = cc in absurd wrong
 own_repeated old new client t (Some Settled) told own is same = (refl, same own.1)
-
-pub heard_submit : {C : Type 0} {G : Ghosts C} (old new : State C G) (name service : List ℕ) (inputs : Data) (eff : Effect C)
-    → Answers old (asks_with (request_under (model_of old) service inputs) (broker.Submit (client_in old name))) eff new
-    → HasEffect old (Submit name service inputs) eff new
-heard_submit old new name service inputs eff h = heard_answers old new (Submit name service inputs)
-    (asks_with (request_under (model_of old) service inputs) (broker.Submit (client_in old name))) eff (λ e r. refl) tt
-    (λ turns stands. ap (λ c. asks_with (request_under (model_of old) service inputs) (broker.Submit c)) (client_same old name)) h
-
-pub heard_answer_with : {C : Type 0} {G : Ghosts C} (old new : State C G) (name : List ℕ) (t : ℕ) (service : List ℕ) (inputs : Data) (eff : Effect C)
-    → Answers old (asks_with (request_under (model_of old) service inputs) (λ request. broker.Answer (client_in old name) (record { ticket = t; work = request }))) eff new
-    → HasEffect old (AnswerWith name t service inputs) eff new
-heard_answer_with old new name t service inputs eff h = heard_answers old new (AnswerWith name t service inputs)
-    (asks_with (request_under (model_of old) service inputs) (λ request. broker.Answer (client_in old name) (record { ticket = t; work = request })))
-    eff (λ e r. refl) tt
-    (λ turns stands. ap (λ c. asks_with (request_under (model_of old) service inputs) (λ request. broker.Answer c (record { ticket = t; work = request }))) (client_same old name)) h
-
-pub heard_take : {C : Type 0} {G : Ghosts C} (old new : State C G) (name : List ℕ) (t : ℕ) (eff : Effect C) → AsksFor old (broker.Take (client_in old name) t) eff new → HasEffect old (Take name t) eff new
-heard_take old new name t eff h = heard_asked old new (Take name t) (broker.Take (client_in old name) t) eff (λ e r. refl) (λ turns stands. ap (λ c. Asks (broker.Take c t)) (client_same old name)) h
-
-pub heard_release : {C : Type 0} {G : Ghosts C} (old new : State C G) (name : List ℕ) (eff : Effect C) → AsksFor old (broker.Release (client_in old name)) eff new → HasEffect old (Release name) eff new
-heard_release old new name eff h = heard_asked old new (Release name) (broker.Release (client_in old name)) eff (λ e r. refl) (λ turns stands. ap (λ c. Asks (broker.Release c)) (client_same old name)) h
-
-pub heard_close : {C : Type 0} {G : Ghosts C} (old new : State C G) (name : List ℕ) (eff : Effect C) → AsksFor old (broker.Close (client_in old name)) eff new → HasEffect old (Close name) eff new
-heard_close old new name eff h = heard_asked old new (Close name) (broker.Close (client_in old name)) eff (λ e r. refl) (λ turns stands. ap (λ c. Asks (broker.Close c)) (client_same old name)) h
-
-pub heard_resize : {C : Type 0} {G : Ghosts C} (old new : State C G) (name : List ℕ) (n : ℕ) (eff : Effect C) → AsksFor old (broker.Resize (client_in old name) n) eff new → HasEffect old (Resize name n) eff new
-heard_resize old new name n eff h = heard_asked old new (Resize name n) (broker.Resize (client_in old name) n) eff (λ e r. refl) (λ turns stands. ap (λ c. Asks (broker.Resize c n)) (client_same old name)) h
 
 -- ---- one turn more of a script
 

@@ -1,5 +1,4 @@
 pub mod Line
-pub mod LineView
 pub mod State
 pub mod Due
 pub mod Reports

@@ -1,8 +1,11 @@
 -- What a line says.
 use Rattle.std.specs.Prelude.{◌≡◌, ℕ, ◌^◌, ◌<◌, List, codes}
 use Rattle.serde_json.specs.Data.{Data, object, member, no_members}
+use Rattle.serde_json.specs.View.{view}
 use Rattle.desk_wire.specs.Parts.{with_name, with_number, IsName, IsTicket, IsObject}
 use Rattle.desk_wire.specs.Reading.{Reading, ReadsAs}
+use Rattle.desk_replaying.specs.declared.line.Line as held
+use Rattle.desk_replaying.specs.declared.line.Line.TheVariants as form
 
 -- the lines of `replay`, by what they name
 pub data Line : Type 0 where
@@ -50,3 +53,17 @@ IsLine line value = (object_of line ≡ value) × IsLawful line
 -- how a line of an input is read
 abbrev pub Reads : List ℕ → Reading Line → Type 0
 Reads = ReadsAs object_of IsLawful
+
+-- Internal from here on.
+
+-- the line that the code holds
+abbrev pub line_view : held.Line → Line
+line_view (form.Model model) = Model (view model.now)
+line_view (form.Open name n) = Open name.now n
+line_view (form.Submit name service inputs) = Submit name.now service.now (view inputs.now)
+line_view (form.Take name t) = Take name.now t
+line_view (form.Answer name t) = Answer name.now t
+line_view (form.AnswerWith name t service inputs) = AnswerWith name.now t service.now (view inputs.now)
+line_view (form.Release name) = Release name.now
+line_view (form.Close name) = Close name.now
+line_view (form.Resize name n) = Resize name.now n

@@ -7,7 +7,7 @@ ghost use Rattle.box_core.specs.Mail.{standing_at};
 ghost use Rattle.box_core.specs.Views.{event_of};
 ghost use Rattle.desk_replaying.specs.Due.{request_under, asks_with, Asks};
 ghost use Rattle.desk_replaying.specs.StateView.{Stands, HasEffect, IsUnmade, LoadsModel, AsksFor, Answers, AnswersAt, AnswersBy, Opens, number_in, client_in, model_of};
-ghost use Rattle.desk_replaying.specs.LineView.{line_view};
+ghost use Rattle.desk_replaying.specs.Line.{line_view};
 
 use crate::line::{Line, line_in};
 use crate::reports::report_on;

@@ -5,10 +5,9 @@ ghost use Rattle.serde_json.specs.Data.{Data, string, number, unsigned, object};
 ghost use Rattle.serde_json.specs.View.{view};
 ghost use Rattle.serde_json.specs.Read.{read};
 ghost use Rattle.desk_wire.specs.Parts.{IsName, IsTicket};
-ghost use Rattle.desk_replaying.specs.Line.{IsLine};
+ghost use Rattle.desk_replaying.specs.Line.{IsLine, line_view};
 ghost use Rattle.desk_wire.specs.Reading.{is_blank};
 ghost use Rattle.desk_replaying.specs.Line as said;
-ghost use Rattle.desk_replaying.specs.LineView.{line_view};
 ghost use Rattle.json_reader.specs.Members.{members_of};
 
 use desk_wire::{

@@ -3,7 +3,7 @@ ghost use Rattle.std.specs.Prelude.{◌≡◌};
 ghost use Rattle.box_core.specs.Views.{report_of};
 ghost use Rattle.desk_wire.specs.Reading.{Says};
 ghost use Rattle.desk_wire.specs.ReportView.{report_view};
-ghost use Rattle.desk_replaying.specs.LineView.{line_view};
+ghost use Rattle.desk_replaying.specs.Line.{line_view};
 ghost use Rattle.desk_replaying.specs.Reports as reports;
 ghost use Rattle.desk_replaying.specs.StateView.{told_of};
 

@@ -1,34 +1,28 @@
--- Each answer is the one that is due, and what stands after it is right.
-use Rattle.std.proofs.Common.{◌≡◌, ◌≢◌, ◌⊎◌, inl, inr, ◌+◌, ◌<◌, ◌≤◌, ◌^◌, ◌%◌, ℕ, Bool, true, false, not, is_ok, List, [], ◌∷◌, ◌++◌, Option, Some, None, Result, Ok, Err, length, get_or, map, option_map, slice_get, slice_set, string_bytes, if◌then◌else◌, refl, sym, ap, ◌∙◌, arith, subst}
+-- Clients after a line, and the answer to a request.
+use Rattle.std.proofs.Common.{◌≡◌, ◌+◌, ◌<◌, ◌≤◌, ◌^◌, ◌%◌, ℕ, Bool, true, false, List, [], ◌∷◌, ◌++◌, Some, None, Result, Ok, Err, length, get_or, map, option_map, slice_get, slice_set, string_bytes, if◌then◌else◌, refl, sym, ap, ◌∙◌, arith, subst}
 use Rattle.std.specs.Arc.{arc_value}
-use Rattle.std.specs.Prelude.{◌==◌, ◌||◌, bytes_eq, nat_lt}
-use Rattle.std.proofs.lemmas.Bool.Decides.{nat_tests}
+use Rattle.std.specs.Prelude.{bytes_eq}
 use Rattle.std.proofs.Math.Nat.{mod-eq_of_lt}
 use Rattle.std.proofs.lemmas.List.{length-append, length-map}
 use Rattle.serde_json.specs.Data.{Data}
-use Rattle.serde_json.specs.Written.{compact_text}
-use Rattle.box_core.specs.Mail.{is_no_capacity}
 use Rattle.feel_value.specs.Distinct.{is_among}
-use Rattle.dmn_plan.specs.ReadModel.{read_model}
 use Rattle.dmn_plan.specs.Request as plan
-use Rattle.dmn_plan.specs.declared.fault.ModelFault.{ModelFault}
 use Rattle.dmn_plan.specs.declared.fault.TaskFault.{TaskFault}
 use Rattle.desk_wire.specs.Reading.{Reading, Says}
-use Rattle.desk_wire.specs.Reports.{Report, Loaded, Faulty, Of}
-use Rattle.desk_wire.specs.Words.{fault_word, task_fault_word}
+use Rattle.desk_wire.specs.Reports.{Of}
+use Rattle.desk_wire.specs.Words.{task_fault_word}
 use Rattle.desk_wire.specs.declared.report.Told.TheVariants as told
 use Rattle.desk_wire.specs.declared.word.Word.TheVariants as word
-use Rattle.desk_requests.specs.Due.{capacity_answer, close_answer, line_answer, request_answer, resize_answer, task_answer}
-use Rattle.desk_requests.specs.Line.{Line, Model, Request, Close, Resize}
-use Rattle.desk_requests.specs.Register.{Answers, Client, StandsAfter, answer_view, client_after, client_view, clients_of, force_of, name_of, names_of, with_accepted, with_client, with_closed}
+use Rattle.desk_requests.specs.Due.{line_answer, request_answer, task_answer}
+use Rattle.desk_requests.specs.Line.{Line, Model, Request}
+use Rattle.desk_requests.specs.Register.{Answers, Client, StandsAfter, answer_view, client_after, client_view, clients_of, force_of, name_of, names_of, with_accepted, with_client}
 use Rattle.desk_requests.specs.State.{callers, has_lane, in_force, is_closed, names_with_lanes, number_after, requests, requests_under, with_one}
 use Rattle.desk_requests.specs.declared.register.Answer.{Answer}
 use Rattle.desk_requests.specs.declared.register.Client as held
 use Rattle.desk_requests.specs.declared.register.Register.{Register}
 use Rattle.desk_requests.proofs.Booking.{as_before, lanes-distinct, names_told, same_client, same_elsewhere, same_of_all, set_one, told_at, with_client-told}
 use Rattle.desk_requests.proofs.Callers.{requests-accepted, requests-closed, requests-few, requests-other, requests-refused}
-use Rattle.desk_requests.proofs.Models.{faulty_model, loaded_model}
-use Rattle.desk_requests.proofs.Names.{among_at, get_at, get_inside, get_map, name_itself, or_true, same_name}
+use Rattle.desk_requests.proofs.Names.{among_at, get_at, get_inside, get_map, same_name}
 
 -- ## A name that asked for a lane
 
@@ -73,7 +67,7 @@ named old new lanes earlier reading n s cs is plan same =
     }
 
 -- it has one
-has_one : (lanes : ℕ) (register : Register) (earlier : List (Reading Line)) (reading : Reading Line) (n : List ℕ) (place : ℕ) → Named lanes register earlier reading
+pub has_one : (lanes : ℕ) (register : Register) (earlier : List (Reading Line)) (reading : Reading Line) (n : List ℕ) (place : ℕ) → Named lanes register earlier reading
     → slice_get (names_of register) place ≡ Some n → has_lane lanes (reading ∷ earlier) n ≡ true
 has_one lanes register earlier reading n place m at = among_at n (names_with_lanes lanes (reading ∷ earlier)) place (ap (λ ns. slice_get ns place) (sym m.names) ∙ at)
 
@@ -84,7 +78,7 @@ client_there lanes register earlier reading n place m at =
     ap (λ ks. slice_get ks place) m.clients ∙ told_at earlier (names_with_lanes lanes (reading ∷ earlier)) place n (ap (λ ns. slice_get ns place) (sym m.names) ∙ at)
 
 -- or it has none
-has_none : (lanes : ℕ) (register : Register) (earlier : List (Reading Line)) (reading : Reading Line) (n : List ℕ) → Named lanes register earlier reading
+pub has_none : (lanes : ℕ) (register : Register) (earlier : List (Reading Line)) (reading : Reading Line) (n : List ℕ) → Named lanes register earlier reading
     → is_among (names_of register) n ≡ false → has_lane lanes (reading ∷ earlier) n ≡ false
 has_none lanes register earlier reading n m absent = ap (λ ns. is_among ns n) (sym m.names) ∙ absent
 
@@ -97,14 +91,14 @@ unchanged : (lanes : ℕ) (register : Register) (earlier : List (Reading Line)) 
 unchanged lanes register earlier reading m h = m.clients ∙ same_of_all (client_after earlier) (client_after (reading ∷ earlier)) (names_with_lanes lanes (reading ∷ earlier)) h
 
 -- of one that would change only a client without a lane
-elsewhere : (lanes : ℕ) (register : Register) (earlier : List (Reading Line)) (reading : Reading Line) (n : List ℕ) → Named lanes register earlier reading
+pub elsewhere : (lanes : ℕ) (register : Register) (earlier : List (Reading Line)) (reading : Reading Line) (n : List ℕ) → Named lanes register earlier reading
     → is_among (names_of register) n ≡ false → ((m : List ℕ) → bytes_eq n m ≡ false → client_after earlier m ≡ client_after (reading ∷ earlier) m)
     → clients_of register ≡ map (client_after (reading ∷ earlier)) (names_with_lanes lanes (reading ∷ earlier))
 elsewhere lanes register earlier reading n m absent h =
     m.clients ∙ same_elsewhere (client_after earlier) (client_after (reading ∷ earlier)) n (names_with_lanes lanes (reading ∷ earlier)) (has_none lanes register earlier reading n m absent) h
 
 -- of one that changes the client at a place
-changed : (lanes : ℕ) (register : Register) (earlier : List (Reading Line)) (reading : Reading Line) (n : List ℕ) (place : ℕ) (now : List Client) (client : Client) → Named lanes register earlier reading
+pub changed : (lanes : ℕ) (register : Register) (earlier : List (Reading Line)) (reading : Reading Line) (n : List ℕ) (place : ℕ) (now : List Client) (client : Client) → Named lanes register earlier reading
     → slice_get (names_of register) place ≡ Some n → now ≡ slice_set (clients_of register) place client → client ≡ client_after (reading ∷ earlier) n
     → ((m : List ℕ) → bytes_eq n m ≡ false → client_after earlier m ≡ client_after (reading ∷ earlier) m)
     → now ≡ map (client_after (reading ∷ earlier)) (names_with_lanes lanes (reading ∷ earlier))
@@ -233,109 +227,4 @@ ask_accepted old mid new k n s text i answer place q fits force is plan same at 
         model = ap (λ p. option_map arc_value p) plan' ∙ m.model;
         clients = accepted_clients lanes mid (clients_of new) earlier n s text i place q (is_closed n earlier) m some good at (subst (λ j. j < 2 ^ 64) num fits) refl (counts (client_after earlier n) there);
       },
-    )
-
--- ## Closes
-
--- a close closes no other
-other_close : (j n : List ℕ) (earlier : List (Reading Line)) → bytes_eq n j ≡ false → is_closed j (Says (Close n) ∷ earlier) ≡ is_closed j earlier
-other_close j n earlier far = rw far refl
-
-own_close : (n : List ℕ) (earlier : List (Reading Line)) → is_closed n (Says (Close n) ∷ earlier) ≡ true
-own_close n earlier = rw (name_itself n) refl
-
-pub close_no_lane : (old new : Register) (k : ℕ) (n : List ℕ) (answer : Answer) → clients_of new ≡ with_client old.lanes n (clients_of old)
-    → new.plan ≡ old.plan → new.lanes ≡ old.lanes → is_among (names_of new) n ≡ false
-    → answer_view answer ≡ Of n k (told.Refused word.Clients) → Answers old k (Close n) answer new
-close_no_lane old new k n answer is plan same absent view = λ lanes earlier st num.
-    let m = named old new lanes earlier (Says (Close n)) n st refl is plan same in
-    let lane = has_none lanes new earlier (Says (Close n)) n m absent in
-    let due : Of n (number_after earlier) (told.Refused word.Clients) ≡ line_answer lanes earlier (Close n) = rw lane refl in (
-      view ∙ ap (λ j. Of n j (told.Refused word.Clients)) num ∙ due,
-      record {
-        count = m.counted;
-        model = m.model;
-        clients = elsewhere lanes new earlier (Says (Close n)) n m absent (λ j far. sym (as_before j earlier (Says (Close n) ∷ earlier) refl (other_close j n earlier far)));
-      },
-    )
-
--- what is told of a close of a client that was closed, or open
-abbrev pub close_said : ℕ → List ℕ → Bool → Report
-close_said k n true = Of n k told.Closed
-close_said k n false = Of n k (told.Refused word.Closed)
-
-said_of_close : (k : ℕ) (n : List ℕ) (opened closed : Bool) → opened ≡ not closed → close_said k n opened ≡ close_answer k n true closed
-said_of_close k n true true e = cc
-said_of_close k n true false e = refl
-said_of_close k n false true e = refl
-said_of_close k n false false e = cc
-
-pub close_lane : (old mid new : Register) (k : ℕ) (n : List ℕ) (answer : Answer) (place : ℕ) (opened : Bool) → clients_of mid ≡ with_client old.lanes n (clients_of old)
-    → mid.plan ≡ old.plan → mid.lanes ≡ old.lanes → slice_get (names_of mid) place ≡ Some n → new.plan ≡ mid.plan → new.lanes ≡ mid.lanes
-    → ((client : Client) → slice_get (clients_of mid) place ≡ Some client → opened ≡ not client.closed)
-    → ((client : Client) → slice_get (clients_of mid) place ≡ Some client → clients_of new ≡ slice_set (clients_of mid) place (with_closed client))
-    → answer_view answer ≡ close_said k n opened → Answers old k (Close n) answer new
-close_lane old mid new k n answer place opened is plan same at plan' same' was closes view = λ lanes earlier st num.
-    let later = Says (Close n) ∷ earlier in
-    let m = named old mid lanes earlier (Says (Close n)) n st refl is plan same in
-    let lane = has_one lanes mid earlier (Says (Close n)) n place m at in
-    let there = client_there lanes mid earlier (Says (Close n)) n place m at in
-    let new_client : with_closed (client_after earlier n) ≡ client_after later n =
-    same_client n (length (requests n earlier)) (length (requests n later)) true (is_closed n later) refl (sym (own_close n earlier)) in
-    let due : close_answer (number_after earlier) n true (is_closed n earlier) ≡ line_answer lanes earlier (Close n) = rw lane refl in (
-      view ∙ ap (λ j. close_said j n opened) num ∙ said_of_close (number_after earlier) n opened (is_closed n earlier) (was (client_after earlier n) there) ∙ due,
-      record {
-        count = same' ∙ m.counted;
-        model = ap (λ p. option_map arc_value p) plan' ∙ m.model;
-        clients = changed lanes mid earlier (Says (Close n)) n place (clients_of new) (with_closed (client_after earlier n)) m at (closes (client_after earlier n) there) new_client
-            (λ j far. sym (as_before j earlier later refl (other_close j n earlier far)));
-      },
-    )
-
--- ## Resizes
-
-pub resize_no_lane : (old new : Register) (k : ℕ) (n : List ℕ) (capacity : ℕ) (answer : Answer) → clients_of new ≡ with_client old.lanes n (clients_of old)
-    → new.plan ≡ old.plan → new.lanes ≡ old.lanes → is_among (names_of new) n ≡ false
-    → answer_view answer ≡ Of n k (told.Refused word.Clients) → Answers old k (Resize n capacity) answer new
-resize_no_lane old new k n capacity answer is plan same absent view = λ lanes earlier st num.
-    let m = named old new lanes earlier (Says (Resize n capacity)) n st refl is plan same in
-    let lane = has_none lanes new earlier (Says (Resize n capacity)) n m absent in
-    let due : Of n (number_after earlier) (told.Refused word.Clients) ≡ line_answer lanes earlier (Resize n capacity) = rw lane refl in (
-      view ∙ ap (λ j. Of n j (told.Refused word.Clients)) num ∙ due,
-      record { count = m.counted; model = m.model; clients = m.clients },
-    )
-
-pub no_capacity : (n : ℕ) → (n ≡ 0) ⊎ ((n ≡ 0 → ⊥) × (4096 < n)) → is_no_capacity n ≡ true
-no_capacity n (inl e) = rw e refl
-no_capacity n (inr e) =
-    let large : nat_lt 4096 n ≡ true = (let h = e.1 in grind (arith, nat_tests)) in
-    ap (λ b. (n == 0) || b) large ∙ or_true (n == 0)
-
-pub has_capacity : (n : ℕ) → (n ≡ 0 → ⊥) → n ≤ 4096 → is_no_capacity n ≡ false
-has_capacity n some h =
-    let first : (n == 0) ≡ false = grind (arith, nat_tests) in
-    let small : nat_lt 4096 n ≡ false = grind (arith, nat_tests) in
-    ap (λ b. b || nat_lt 4096 n) first ∙ small
-
--- what is told of a resize of a client that is closed, or open
-abbrev pub resize_said : ℕ → List ℕ → ℕ → Bool → Report
-resize_said k n capacity true = Of n k (told.Refused word.Closed)
-resize_said k n capacity false = capacity_answer k n capacity (is_no_capacity capacity)
-
-said_of_resize : (k : ℕ) (n : List ℕ) (capacity : ℕ) (closed : Bool) → resize_said k n capacity closed ≡ resize_answer k n capacity true closed
-said_of_resize k n capacity true = refl
-said_of_resize k n capacity false = refl
-
-pub resize_lane : (old new : Register) (k : ℕ) (n : List ℕ) (capacity : ℕ) (answer : Answer) (place : ℕ) (closed : Bool) → clients_of new ≡ with_client old.lanes n (clients_of old)
-    → new.plan ≡ old.plan → new.lanes ≡ old.lanes → slice_get (names_of new) place ≡ Some n
-    → ((client : Client) → slice_get (clients_of new) place ≡ Some client → closed ≡ client.closed)
-    → answer_view answer ≡ resize_said k n capacity closed → Answers old k (Resize n capacity) answer new
-resize_lane old new k n capacity answer place closed is plan same at was view = λ lanes earlier st num.
-    let m = named old new lanes earlier (Says (Resize n capacity)) n st refl is plan same in
-    let lane = has_one lanes new earlier (Says (Resize n capacity)) n place m at in
-    let there = client_there lanes new earlier (Says (Resize n capacity)) n place m at in
-    let due : resize_answer (number_after earlier) n capacity true (is_closed n earlier) ≡ line_answer lanes earlier (Resize n capacity) = rw lane refl in (
-      view ∙ ap (λ j. resize_said j n capacity closed) num ∙ ap (resize_said (number_after earlier) n capacity) (was (client_after earlier n) there)
-          ∙ said_of_resize (number_after earlier) n capacity (is_closed n earlier) ∙ due,
-      record { count = m.counted; model = m.model; clients = m.clients },
     )

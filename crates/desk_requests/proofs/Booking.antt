@@ -1,17 +1,16 @@
 -- What a line makes of the clients.
-use Rattle.std.proofs.Common.{◌≡◌, ◌≢◌, ◌+◌, ◌<◌, ◌≤◌, ◌^◌, ◌%◌, ℕ, zero, suc, Bool, true, false, not, List, [], ◌∷◌, ◌++◌, Option, Some, None, Result, Ok, Err, length, map, take, slice_get, slice_set, if◌then◌else◌, ◌||◌, refl, sym, ap, ◌∙◌, arith, subst}
+use Rattle.std.proofs.Common.{◌≡◌, ◌+◌, ◌<◌, ℕ, zero, suc, Bool, true, false, List, [], ◌∷◌, ◌++◌, Option, Some, None, length, map, take, slice_get, slice_set, if◌then◌else◌, ◌||◌, refl, sym, ap, ◌∙◌, arith, subst}
 use Rattle.std.specs.Prelude.{bytes_eq, nat_le}
 use Rattle.std.proofs.lemmas.Bool.Decides.{nat_tests}
-use Rattle.std.proofs.lemmas.List.{take_all, length-take, length-append, length-map, map-append}
-use Rattle.serde_json.specs.Data.{Data}
+use Rattle.std.proofs.lemmas.List.{take_all, length-take, length-map, map-append}
 use Rattle.feel_value.specs.Distinct.{is_among}
 use Rattle.dmn_plan.specs.Request as plan
 use Rattle.desk_wire.specs.Reading.{Reading, Blank, Long, Syntax, Shape, Says}
-use Rattle.desk_requests.specs.Line.{Line, Model, Request, Close, Resize}
-use Rattle.desk_requests.specs.State.{AreDistinct, callers, in_force, is_closed, names_with_lanes, requests, requests_under, with_lane, with_one, with_requester}
+use Rattle.desk_requests.specs.Line.{Line, Model, Request}
+use Rattle.desk_requests.specs.State.{AreDistinct, callers, in_force, is_closed, names_with_lanes, requests, with_lane, with_one, with_requester}
 use Rattle.desk_requests.specs.Register.{Client, client_after, fresh, name_of, with_client}
-use Rattle.desk_requests.proofs.Callers.{distinct-push, requests-closed, requests-other, requests-refused, stranger, with_lane-take}
-use Rattle.desk_requests.proofs.Names.{name_itself, not_among_at, or_false, same_name}
+use Rattle.desk_requests.proofs.Callers.{distinct-push, stranger, with_lane-take}
+use Rattle.desk_requests.proofs.Names.{not_among_at, or_false}
 
 -- ## Lists of clients
 
@@ -78,8 +77,7 @@ callers-distinct (Syntax ∷ earlier) = callers-distinct earlier
 callers-distinct (Shape ∷ earlier) = callers-distinct earlier
 callers-distinct (Says (Model json) ∷ earlier) = callers-distinct earlier
 callers-distinct (Says (Request n s i) ∷ earlier) = distinct_requester (in_force earlier) n (callers earlier) (callers-distinct earlier)
-callers-distinct (Says (Close n) ∷ earlier) = distinct_one n (callers earlier) (is_among (callers earlier) n) refl (callers-distinct earlier)
-callers-distinct (Says (Resize n k) ∷ earlier) = distinct_one n (callers earlier) (is_among (callers earlier) n) refl (callers-distinct earlier)
+callers-distinct (Says line ∷ earlier) = distinct_one _ (callers earlier) _ refl (callers-distinct earlier)
 
 not_in_first : (k : ℕ) (names : List (List ℕ)) (n : List ℕ) → is_among names n ≡ false → is_among (take k names) n ≡ false
 not_in_first zero names n h = refl

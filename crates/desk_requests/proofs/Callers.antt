@@ -11,7 +11,7 @@ use Rattle.dmn_plan.specs.Request as plan
 use Rattle.dmn_plan.specs.declared.fault.ModelFault.{ModelFault}
 use Rattle.dmn_plan.specs.declared.fault.TaskFault.{TaskFault}
 use Rattle.desk_wire.specs.Reading.{Reading, Blank, Long, Syntax, Shape, Says}
-use Rattle.desk_requests.specs.Line.{Line, Model, Request, Close, Resize}
+use Rattle.desk_requests.specs.Line.{Line, Model, Request, Close}
 use Rattle.desk_requests.specs.State.{AreDistinct, callers, in_force, is_closed, newer_model, ok_list, requests, requests_under, with_lane, with_one, with_requester}
 use Rattle.desk_requests.proofs.Names.{same_name, name_itself, turned_name, or_false}
 
@@ -44,14 +44,9 @@ no_model json (Err f) old h = h
 
 pub quiet : (m : List ℕ) (earlier : List (Reading Line)) → in_force earlier ≡ None → requests m earlier ≡ []
 quiet m [] h = refl
-quiet m (Blank ∷ earlier) h = quiet m earlier h
-quiet m (Long ∷ earlier) h = quiet m earlier h
-quiet m (Syntax ∷ earlier) h = quiet m earlier h
-quiet m (Shape ∷ earlier) h = quiet m earlier h
 quiet m (Says (Model json) ∷ earlier) h = quiet m earlier (no_model json (read_model json) (in_force earlier) h)
 quiet m (Says (Request n s i) ∷ earlier) h = requests-refused m n s i earlier (rw h refl) ∙ quiet m earlier h
-quiet m (Says (Close n) ∷ earlier) h = quiet m earlier h
-quiet m (Says (Resize n k) ∷ earlier) h = quiet m earlier h
+quiet m (reading ∷ earlier) h = quiet m earlier h
 
 one_at_most : (r : Result plan.Request TaskFault) → length (ok_list r) ≤ 1
 one_at_most (Ok q) = omega arith
@@ -68,15 +63,9 @@ one_more false xs t k h l = omega (arith, l)
 -- there are no more requests than lines
 pub requests-few : (m : List ℕ) (earlier : List (Reading Line)) → length (requests m earlier) ≤ length earlier
 requests-few m [] = omega arith
-requests-few m (Blank ∷ earlier) = let h = requests-few m earlier in omega (arith, h)
-requests-few m (Long ∷ earlier) = let h = requests-few m earlier in omega (arith, h)
-requests-few m (Syntax ∷ earlier) = let h = requests-few m earlier in omega (arith, h)
-requests-few m (Shape ∷ earlier) = let h = requests-few m earlier in omega (arith, h)
-requests-few m (Says (Model json) ∷ earlier) = let h = requests-few m earlier in omega (arith, h)
 requests-few m (Says (Request n s i) ∷ earlier) =
     one_more (bytes_eq n m && not (is_closed m earlier)) (requests m earlier) (requests_under (in_force earlier) s i) (length earlier) (one_under (in_force earlier) s i) (requests-few m earlier)
-requests-few m (Says (Close n) ∷ earlier) = let h = requests-few m earlier in omega (arith, h)
-requests-few m (Says (Resize n k) ∷ earlier) = let h = requests-few m earlier in omega (arith, h)
+requests-few m (reading ∷ earlier) = let h = requests-few m earlier in omega (arith, h)
 
 -- ## The names
 
@@ -123,7 +112,7 @@ stranger n (Shape ∷ earlier) h = stranger n earlier h
 stranger n (Says (Model json) ∷ earlier) h = stranger n earlier h
 stranger n (Says (Request m s i) ∷ earlier) h = stranger_request n m s i earlier (in_force earlier) refl (λ g. stranger n earlier g) h
 stranger n (Says (Close m) ∷ earlier) h = let no = not_with_one n m (callers earlier) h in let b = stranger n earlier no.0 in (b.0, rw no.1 b.1)
-stranger n (Says (Resize m k) ∷ earlier) h = let no = not_with_one n m (callers earlier) h in stranger n earlier no.0
+stranger n (Says line ∷ earlier) h = stranger n earlier (not_with_one n _ (callers earlier) h).0
 
 -- the names with lanes, after one more name
 take_with : (lanes : ℕ) (n : List ℕ) (names : List (List ℕ)) (b c d : Bool) → is_among (take lanes names) n ≡ b → nat_le lanes (length (take lanes names)) ≡ c → is_among names n ≡ d

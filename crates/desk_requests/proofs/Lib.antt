@@ -7,6 +7,5 @@ pub mod Listening
 pub mod Booking
 pub mod Answering
 pub mod Settling
-pub mod Asking
 pub mod Taken
 pub mod Passing

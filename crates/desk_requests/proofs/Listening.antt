@@ -4,8 +4,7 @@ use Rattle.serde_json.specs.Data.{object}
 use Rattle.serde_json.specs.declared.value.Value.{Value}
 use Rattle.json_reader.specs.Members.{members_of}
 use Rattle.desk_requests.specs.Line as said
-use Rattle.desk_requests.specs.Line.{IsLine}
-use Rattle.desk_requests.specs.LineView.{line_view}
+use Rattle.desk_requests.specs.Line.{IsLine, line_view}
 use Rattle.desk_requests.specs.LineHeard.{IsLineOf}
 use Rattle.desk_wire.specs.declared.heard.Heard.TheVariants.{Object}
 use Rattle.desk_requests.specs.declared.line.Line.{Line}

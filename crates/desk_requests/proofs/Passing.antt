@@ -1,5 +1,5 @@
 -- Lines that pass a gate, and those that are refused.
-use Rattle.std.proofs.Common.{◌≡◌, ◌⊎◌, inl, inr, ◌<◌, ◌≤◌, ◌∙◌, ℕ, suc, Bool, true, false, is_ok, List, [], ◌∷◌, ◌++◌, Option, Some, None, Result, Ok, Err, length, if◌then◌else◌, cond, subst, ◌||◌, String, Global, string_bytes, refl, sym, ap, arith, append-nil}
+use Rattle.std.proofs.Common.{◌≡◌, inl, inr, ◌<◌, ◌≤◌, ◌∙◌, ℕ, suc, Bool, true, false, is_ok, List, [], ◌∷◌, ◌++◌, Option, Some, None, Result, Ok, Err, length, if◌then◌else◌, cond, subst, ◌||◌, String, Global, string_bytes, refl, sym, ap, arith, append-nil}
 use Rattle.std.specs.Arc.{arc_value}
 use Rattle.std.specs.declared.sync.Arc.{Arc}
 use Rattle.std.specs.BTreeSet.{BTreeSet, Updates, contains_text}
@@ -28,9 +28,8 @@ use Rattle.desk_wire.specs.declared.word.Word.TheVariants as word
 use Rattle.desk_requests.specs.Decider.{Decides, DecidesRequest, IsCloseDue, IsModelDue, IsOpenCloseDue, IsOpenResizeDue, IsRefused, IsRequestDue, IsResizeDue, IsTaskDue, IsTold}
 use Rattle.desk_requests.specs.Due.{answer, answers, capacity_answer, close_answer, line_answer, model_answer, resize_answer, task_answer}
 use Rattle.desk_requests.specs.Gate.{IsOpenAfter, IsSeat, Knows, Passes, PassesText, Settles, listed, unread}
-use Rattle.desk_requests.specs.Line.{Line, Model, Request, Close, Resize}
+use Rattle.desk_requests.specs.Line.{Line, Model, Request, Close, Resize, line_view}
 use Rattle.desk_requests.specs.LineHeard.{IsLineOf}
-use Rattle.desk_requests.specs.LineView.{line_view}
 use Rattle.desk_requests.specs.Refused.{refused, refused_at, refused_by, refused_lines}
 use Rattle.desk_requests.specs.Services.{KnowsServices}
 use Rattle.desk_requests.specs.State.{callers, has_lane, in_force, is_closed, newer_model, number_after, requests, with_one, with_requester}

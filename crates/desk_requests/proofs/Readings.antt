@@ -1,8 +1,9 @@
--- Every line that can come has a reading.
-use Rattle.std.proofs.Common.{◌≡◌, ◌≢◌, ◌⊎◌, inl, inr, ℕ, List, [], ◌∷◌, codes, true, false, length, suc, ap, refl, sym}
-use Rattle.serde_json.specs.Data.{Data, null, boolean, number, string, array, object, no_members, member}
+-- Every line that can come has a reading, and a JSON value is at most one line.
+use Rattle.std.proofs.Common.{◌≡◌, ◌≢◌, ◌⊎◌, inl, inr, ℕ, if◌then◌else◌, List, [], ◌∷◌, Option, Some, None, codes, bytes_eq, true, false, length, suc, ap, refl, sym, ◌∙◌}
+use Rattle.serde_json.specs.Data.{Data, null, boolean, number, unsigned, string, array, object, Members, no_members, member}
 use Rattle.desk_wire.specs.Reading.{Reading}
 use Rattle.desk_wire.proofs.Deciding.{Decision, by_turns, begins, is_object, is_string, is_end, is_any, any_text, is_name, is_capacity, is_inputs, is_numbered_name, IsOf, IsSome, IsNone, or_else, reading_of}
+use Rattle.desk_wire.proofs.ReadOnce.{some_same}
 use Rattle.desk_requests.specs.Line.{Line, Model, Request, Close, Resize, object_of, IsLawful, Reads, AreRead}
 
 is_model : (d : Data) → Decision (IsOf object_of IsLawful Data Model d)
@@ -71,3 +72,34 @@ read-length [] [] r = refl
 read-length [] (x ∷ readings) r = absurd r
 read-length (l ∷ lines) [] r = absurd r
 read-length (l ∷ lines) (x ∷ readings) r = ap suc (read-length lines readings r.1)
+
+-- ## A JSON value is at most one line
+
+abbrev text_as : (List ℕ → Option Line) → Data → Option Line
+text_as f (string text) = f text
+text_as f d = None
+
+abbrev number_as : (ℕ → Option Line) → Data → Option Line
+number_as f (number (unsigned n)) = f n
+number_as f d = None
+
+abbrev line_in : Members → Option Line
+line_in (member k d no_members) = Some (Model d)
+line_in (member k d (member l e no_members)) =
+    if bytes_eq k (codes "capacity") then number_as (λ n. text_as (λ name. Some (Resize name n)) e) d else text_as (λ name. Some (Close name)) d
+line_in (member k d (member l inputs (member m e no_members))) = text_as (λ name. text_as (λ service. Some (Request name service inputs)) e) d
+line_in ms = None
+
+-- the only line that a JSON value may be
+abbrev line_of_data : Data → Option Line
+line_of_data (object ms) = line_in ms
+line_of_data d = None
+
+line_of_object : (says : Line) → line_of_data (object_of says) ≡ Some says
+line_of_object (Model d) = refl
+line_of_object (Request name service inputs) = refl
+line_of_object (Close name) = refl
+line_of_object (Resize name n) = refl
+
+pub one_line : (says other : Line) → object_of says ≡ object_of other → says ≡ other
+one_line says other e = some_same says other (sym (line_of_object says) ∙ ap line_of_data e ∙ line_of_object other)

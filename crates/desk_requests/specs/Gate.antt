@@ -65,8 +65,7 @@ Settles k (due.Loaded plan) old found new =
     (listed found ≡ []) × (new.closed ≡ old.closed) × (arc_value new.plan ≡ arc_value plan) × ((text : List ℕ) → KnowsServices text new.services)
 Settles k (due.Told said) old found new = (listed found ≡ refused_by (report_view said)) × (new ≡ old)
 Settles k (due.Refused name seat why) old found new = (listed found ≡ refused k why ∷ []) × (new ≡ old)
-Settles k (due.Asked name service seat made) old found new = (listed found ≡ []) × (new ≡ old)
 Settles k (due.Closed name seat) old found new =
     (listed found ≡ []) × (new.plan ≡ old.plan) × (new.services ≡ old.services)
     × ((other : List ℕ) → contains_text new.closed other ≡ (bytes_eq name.now other || contains_text old.closed other))
-Settles k (due.Resized name seat n) old found new = (listed found ≡ []) × (new ≡ old)
+Settles k what old found new = (listed found ≡ []) × (new ≡ old)

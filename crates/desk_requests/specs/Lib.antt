@@ -1,5 +1,4 @@
 pub mod Line
-pub mod LineView
 pub mod LineHeard
 pub mod State
 pub mod Due

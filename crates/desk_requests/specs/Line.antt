@@ -1,8 +1,11 @@
 -- The lines of `serve`.
 use Rattle.std.specs.Prelude.{◌≡◌, ℕ, ◌^◌, ◌<◌, List, [], ◌∷◌, true, codes}
 use Rattle.serde_json.specs.Data.{Data, boolean, object, member, no_members}
+use Rattle.serde_json.specs.View.{view}
 use Rattle.desk_wire.specs.Parts.{IsName, IsObject, with_name, with_number}
 use Rattle.desk_wire.specs.Reading.{Reading, ReadsAs}
+use Rattle.desk_requests.specs.declared.line.Line as held
+use Rattle.desk_requests.specs.declared.line.Line.TheVariants as form
 
 pub data Line : Type 0 where
   Model : (model : Data) → Line
@@ -24,6 +27,13 @@ IsLawful (Model model) = Unit {0}
 IsLawful (Request name service inputs) = IsName name × IsObject inputs
 IsLawful (Close name) = IsName name
 IsLawful (Resize name capacity) = IsName name × (capacity < 2 ^ 32)
+
+-- the line that the code holds
+abbrev pub line_view : held.Line → Line
+line_view (form.Model model) = Model (view model.now)
+line_view (form.Request name service inputs) = Request name.now service.now (view inputs.now)
+line_view (form.Close name) = Close name.now
+line_view (form.Resize name n) = Resize name.now n
 
 -- the value is this lawful line
 abbrev pub IsLine : Line → Data → Type 0

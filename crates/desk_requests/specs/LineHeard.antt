@@ -5,8 +5,7 @@ use Rattle.json_reader.specs.Members.{members_of}
 use Rattle.desk_wire.specs.declared.heard.Heard.{Heard}
 use Rattle.desk_wire.specs.declared.heard.Heard.TheVariants.{Object}
 use Rattle.desk_requests.specs.Line as said
-use Rattle.desk_requests.specs.Line.{IsLine}
-use Rattle.desk_requests.specs.LineView.{line_view}
+use Rattle.desk_requests.specs.Line.{IsLine, line_view}
 use Rattle.desk_requests.specs.declared.line.Line.{Line}
 
 -- the lawful line that is heard so, or that there is none

@@ -5,7 +5,7 @@ ghost use Rattle.dmn_plan.specs.ReadModel.{read_model};
 ghost use Rattle.dmn_plan.specs.Request as plan;
 ghost use Rattle.desk_requests.specs.Decider.{Decides, IsAt, IsLoadedOf, IsMadeOf};
 ghost use Rattle.desk_requests.specs.Line as said;
-ghost use Rattle.desk_requests.specs.LineView.{line_view};
+ghost use Rattle.desk_requests.specs.Line.{line_view};
 
 use crate::line::Line;
 use desk_wire::{Report, Told, Word};

@@ -9,8 +9,7 @@ ghost use Rattle.desk_wire.specs.Heard.{IsHeardAs};
 ghost use Rattle.desk_wire.specs.Reading.{Says};
 ghost use Rattle.desk_wire.specs.ReportView.{report_view};
 ghost use Rattle.desk_requests.specs.Gate.{IsOpenAfter, Passes, PassesText, Settles, listed, unread};
-ghost use Rattle.desk_requests.specs.Line.{Model};
-ghost use Rattle.desk_requests.specs.LineView.{line_view};
+ghost use Rattle.desk_requests.specs.Line.{Model, line_view};
 ghost use Rattle.desk_requests.specs.Refused as specs;
 ghost use Rattle.desk_requests.specs.Refused.{refused_by};
 
@@ -191,12 +190,12 @@ impl Gate {
             }
             Due::Told(report) => Ok(refused_by(report)),
             Due::Refused(_, _, why) => Ok(Some(refused(number, why))),
-            Due::Asked(_, _, _, _) => Ok(None),
             Due::Closed(name, _) => {
                 self.close(alloc, name)?;
                 Ok(None)
             }
-            Due::Resized(_, _, _) => Ok(None),
+            // Nothing else changes what is kept here.
+            _ => Ok(None),
         }
     }
 

@@ -4,9 +4,8 @@ ghost use Rattle.serde_json.specs.Data.{Data, object};
 ghost use Rattle.serde_json.specs.View.{view};
 ghost use Rattle.json_reader.specs.Members.{members_of};
 ghost use Rattle.desk_requests.specs.Line as said;
-ghost use Rattle.desk_requests.specs.Line.{IsLine};
+ghost use Rattle.desk_requests.specs.Line.{IsLine, line_view};
 ghost use Rattle.desk_requests.specs.LineHeard.{IsLineOf};
-ghost use Rattle.desk_requests.specs.LineView.{line_view};
 
 use desk_wire::{Heard, capacity_in, name_in, one_member, three_members, two_members};
 use serde_json::Value;

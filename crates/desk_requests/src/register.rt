@@ -5,7 +5,7 @@ ghost use Rattle.feel_value.specs.Distinct.{is_among};
 ghost use Rattle.dmn_plan.specs.Request.{request_result};
 ghost use Rattle.desk_wire.specs.Reports.{Reply};
 ghost use Rattle.desk_requests.specs.Decider.{IsAt};
-ghost use Rattle.desk_requests.specs.LineView.{line_view};
+ghost use Rattle.desk_requests.specs.Line.{line_view};
 ghost use Rattle.desk_requests.specs.Register as specs;
 ghost use Rattle.desk_requests.specs.Register.{Answers, AsksBy, AsksFor, IsSeat, Settles, StandsAfter, answer_view, clients_of, force_of, names_of, with_accepted, with_client, with_closed};
 

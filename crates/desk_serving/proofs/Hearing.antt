@@ -2,7 +2,7 @@
 use Rattle.std.proofs.Common.{◌≡◌, ◌+◌, ◌<◌, ◌≤◌, ◌^◌, ℕ, zero, suc, List, [], ◌∷◌, ◌++◌, Some, None, Result, Ok, Err, OnOk, length, reverse, slice_get, refl, sym, ap, ◌∙◌, arith, append_assoc, append-nil, subst}
 use Rattle.std.specs.List.{flat_map}
 use Rattle.std.proofs.lemmas.List.{map-append, reverse-append, length-map, length-reverse}
-use Rattle.desk_requests.specs.Line.{Line, Reads}
+use Rattle.desk_requests.specs.Line.{Line, Reads, line_view}
 use Rattle.lanes.specs.Clients.{client_links}
 use Rattle.desk_serving.specs.LanesView.{lanes_in, links_in, names_in}
 use Rattle.desk_lines.specs.Lines.{ended}
@@ -11,7 +11,6 @@ use Rattle.desk_wire.specs.Reading.{Reading, Blank, Long, Syntax, Shape, Says}
 use Rattle.desk_wire.specs.Reports.{Report, Refused, report_text}
 use Rattle.desk_wire.specs.declared.word.Word.TheVariants as word
 use Rattle.desk_serving.specs.Script.{texts_of, ServedInPart}
-use Rattle.desk_requests.specs.LineView.{line_view}
 use Rattle.desk_requests.specs.LineHeard.{IsLineOf}
 use Rattle.desk_wire.specs.Heard.{IsHeardAs}
 use Rattle.desk_wire.specs.Listening.{refusal_text}

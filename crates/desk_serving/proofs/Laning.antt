@@ -1,13 +1,10 @@
 -- What a lane's calls make of it, and what stays of a list of lanes.
-use Rattle.std.proofs.Common.{◌≡◌, ◌≢◌, ℕ, zero, suc, ◌+◌, ◌-◌, ◌<◌, ◌≤◌, ◌⊎◌, ⊎_elim, Bool, true, false, List, [], ◌∷◌, ◌++◌, Option, Some, None, IfSome, IfNone, length, map, drop, slice_get, refl, sym, ap, ◌∙◌, subst, arith, append-nil, ltb-true}
-use Rattle.std.specs.Prelude.{nat_lt}
+use Rattle.std.proofs.Common.{◌≡◌, ℕ, zero, suc, ◌+◌, ◌-◌, ◌<◌, ◌≤◌, List, [], ◌∷◌, ◌++◌, Option, Some, None, IfSome, IfNone, length, map, drop, slice_get, refl, sym, ap, ◌∙◌, arith, append-nil}
 use Rattle.std.proofs.lemmas.List.{length-map}
 use Rattle.std.proofs.lemmas.List.Sorted.{IsPermutation-refl}
 use Rattle.box_core.specs.Answer.{Ticketed}
 use Rattle.box_core.specs.History.{Report, Kept}
-use Rattle.box_core.specs.Mail.{Mail, Place, accepted_in, is_no_capacity, kept_of_place, resize_refusal_by, resize_refusal_in, with_capacity, with_close}
-use Rattle.box_core.specs.declared.faults.Refusal.{Refusal}
-use Rattle.box_core.specs.declared.faults.Refusal.TheVariants as refusal
+use Rattle.box_core.specs.Mail.{Mail, Place, accepted_in, kept_of_place, with_capacity, with_close}
 use Rattle.box_core.specs.declared.work.Reply.{Reply}
 use Rattle.dmn_plan.specs.Request.{Request, request_result}
 use Rattle.feel_value.specs.declared.feel.Outcome.{Outcome}
@@ -21,23 +18,6 @@ use Rattle.desk_serving.specs.Owed.{Lane, lane_of, due, HandsOwn, with_closed, w
 use Rattle.desk_wire.specs.Reports as reports
 use Rattle.desk_serving.proofs.Owing.{due-next, of_other, of_same}
 use Rattle.desk_requests.proofs.Names.{name_itself, get_map}
-
--- ## Why a capacity is refused
-
--- where nothing is outstanding, no capacity is too small
-pub resize_whole : (closed : Bool) (accepted handed n : ℕ) → accepted ≡ handed → resize_refusal_by closed accepted handed n ≡ resize_refusal_by closed 0 0 n
-resize_whole closed accepted handed n e = let none : accepted - handed ≡ 0 = omega (arith, e) in rw none refl
-
-pub no_memory : (due : Option Refusal) (n m : ℕ) (why : Refusal) → (due ≡ Some why) ⊎ ((due ≡ None) × (n ≢ m) × (why ≡ refusal.Memory)) → why ≢ refusal.Memory → due ≡ Some why
-no_memory due n m why told other = ⊎_elim (λ (is : due ≡ Some why). is) (λ (is : (due ≡ None) × (n ≢ m) × (why ≡ refusal.Memory)). absurd (other is.2)) told
-
-not_less : (n : ℕ) (b : Bool) → nat_lt n 0 ≡ b → b ≡ false
-not_less n true e = let less : n < 0 = ltb-true n 0 e in absurd (omega (arith, less))
-not_less n false e = refl
-
--- a whole lane that is open refuses nothing that is a capacity
-pub none_refused : (closed : Bool) (n : ℕ) → closed ≡ false → is_no_capacity n ≡ false → resize_refusal_by closed 0 0 n ≡ None
-none_refused closed n yet some = rw (yet, some, not_less n (nat_lt n 0) refl) refl
 
 -- ## A poll
 
@@ -195,11 +175,3 @@ sized_lane old new n put mail = lane_is (lane_of new) (lane_of old) (ap (map wor
 -- it was left as it is
 pub kept_lane : (old new : ClientEnd Request Outcome) → put_of new ≡ put_of old → mail_of new ≡ mail_of old → lane_of new ≡ lane_of old
 kept_lane old new put mail = lane_is (lane_of new) (lane_of old) (ap (map work_of) put) (ap (λ m. m.handed) mail) (ap (λ m. m.closed) mail)
-
--- why a whole lane is given no capacity, if so
-pub sized_whole : (client : ClientEnd Request Outcome) (lane : Lane) (n : ℕ) (due : Option Refusal) → lane_of client ≡ lane → drop lane.handed lane.put ≡ [] → resize_refusal_in (mail_of client) n ≡ due
-    → due ≡ resize_refusal_by lane.closed 0 0 n
-sized_whole client lane n due is whole told =
-    let mail = mail_of client in
-    let owes : drop (lane_of client).handed (lane_of client).put ≡ [] = subst (λ (l : Lane). drop l.handed l.put ≡ []) (sym is) whole in
-    sym told ∙ resize_whole mail.closed (accepted_in mail) mail.handed n (dropped_whole client owes) ∙ ap (λ (l : Lane). resize_refusal_by l.closed 0 0 n) is

@@ -6,7 +6,7 @@ use Rattle.serde_json.specs.Data.{Data}
 use Rattle.dmn_plan.specs.ReadModel.{read_model}
 use Rattle.dmn_plan.specs.Request as plan
 use Rattle.dmn_plan.specs.declared.fault.TaskFault.{TaskFault}
-use Rattle.desk_requests.specs.Line.{Line, Model, Request, Close, Resize}
+use Rattle.desk_requests.specs.Line.{Line, Model, Request, Close}
 use Rattle.desk_wire.specs.Words.{task_fault_word}
 use Rattle.desk_lines.specs.Lines.{ended}
 use Rattle.desk_serving.specs.Owed.{Lane, due_to, due_to_name, unhanded, AreBooked, HandsThen, Stands, with_put, with_closed}
@@ -17,7 +17,7 @@ use Rattle.desk_wire.specs.declared.report.Told.TheVariants as told
 use Rattle.desk_wire.specs.declared.word.Word.{Word}
 use Rattle.desk_wire.specs.declared.word.Word.TheVariants as word
 use Rattle.desk_serving.specs.Script.{of_client, texts_of}
-use Rattle.desk_requests.specs.Due.{answer, request_answer, task_answer, close_answer, resize_answer, model_answer}
+use Rattle.desk_requests.specs.Due.{answer, request_answer, task_answer, close_answer, model_answer}
 use Rattle.feel_value.specs.Distinct.{is_among}
 use Rattle.desk_serving.proofs.Owing.{due_to_none, hands_none, hands_then_report, length-unhanded}
 use Rattle.desk_requests.proofs.Names.{same_name, name_itself, among_at, set_back}
@@ -275,35 +275,13 @@ hands_closed names lanes shut new c lane e text text' la is h = record {
   owed = λ who. h.owed who ∙ ap (λ t. t ++ of_client who (e ∷ [])) (ap (due_to who names) is ∙ due_to_closed names lanes c lane la who);
 }
 
--- ## Resizes
+-- ## A line that changes no client
 
-pub named_resize : (n : List ℕ) (size : ℕ) (earlier : List (Reading Line)) (names names' : List (List ℕ)) (model : Option (List ℕ)) (lanes : List Lane) (said : List Report)
-    → Stands earlier earlier names model lanes said → names' ≡ with_lane (length lanes) n names → Stands (Says (Resize n size) ∷ earlier) earlier names' model lanes said
-named_resize n size earlier names names' model lanes said st is = stands_named n (Says (Resize n size)) earlier names names' model lanes said st refl is
-
-pub heard_resize_no_lane : (n : List ℕ) (size k : ℕ) (earlier : List (Reading Line)) (names : List (List ℕ)) (model : Option (List ℕ)) (lanes : List Lane) (said : List Report) (text text' : List ℕ)
-    → Stands (Says (Resize n size) ∷ earlier) earlier names model lanes said → is_among names n ≡ false → k ≡ number_after earlier
-    → text' ≡ text ++ ended (report_text (Of n k (told.Refused word.Clients))) → IsHeard (Says (Resize n size)) earlier names model lanes said text text'
-heard_resize_no_lane n size k earlier names model lanes said text text' st absent num is =
-    let reading = Says (Resize n size) in let e = Of n k (told.Refused word.Clients) in
-    let lane : has_lane (length lanes) (reading ∷ earlier) n ≡ false = ap (λ ns. is_among ns n) (sym st.names) ∙ absent in
-    heard reading earlier names model model lanes lanes said e text text' st
-    (hands_then_report names lanes lanes e text text text' (hands_none names lanes text) (due_to_none n names lanes absent) is)
-    (ap (λ b. resize_answer (number_after earlier) n size b (is_closed n earlier) ∷ []) lane
-    ∙ ap (λ j. Of n j (told.Refused word.Clients) ∷ []) (sym num))
-    refl st.model (booked_same names lanes lanes earlier (reading ∷ earlier) refl st.booked (λ m among. (refl, refl)))
-
-pub heard_resize : (n : List ℕ) (size k c : ℕ) (e : Report) (earlier : List (Reading Line)) (names : List (List ℕ)) (model : Option (List ℕ)) (lanes new : List Lane) (lane : Lane) (said : List Report) (text text' : List ℕ)
-    → Stands (Says (Resize n size) ∷ earlier) earlier names model lanes said → slice_get names c ≡ Some n → slice_get lanes c ≡ Some lane → k ≡ number_after earlier
-    → e ≡ resize_answer k n size true lane.closed → unhanded new ≡ unhanded lanes
-    → HandsThen names lanes new e text text' → IsHeard (Says (Resize n size)) earlier names model new said text text'
-heard_resize n size k c e earlier names model lanes new lane said text text' st at la num v same h =
-    let reading = Says (Resize n size) in
-    let book = booked_at names lanes earlier c n lane st.booked at la in
-    let inside : has_lane (length lanes) (reading ∷ earlier) n ≡ true = ap (λ ns. is_among ns n) (sym st.names) ∙ among_at n names c at in
-    heard reading earlier names model model lanes new said e text text' st h
-    (ap (λ b. resize_answer (number_after earlier) n size b (is_closed n earlier) ∷ []) inside
-    ∙ ap (λ x. x ∷ []) (sym (v ∙ ap (λ j. resize_answer j n size true lane.closed) num
-    ∙ ap (resize_answer (number_after earlier) n size true) book.1)))
-    (length-unhanded new lanes same) st.model
-    (booked_same names lanes new earlier (reading ∷ earlier) same st.booked (λ m among. (refl, refl)))
+pub heard_told : (reading : Reading Line) (e : Report) (earlier : List (Reading Line)) (names : List (List ℕ)) (model : Option (List ℕ)) (lanes new : List Lane) (said : List Report) (text text' : List ℕ)
+    → Stands (reading ∷ earlier) earlier names model lanes said → in_force (reading ∷ earlier) ≡ in_force earlier
+    → ((m : List ℕ) → (requests m (reading ∷ earlier) ≡ requests m earlier) × (is_closed m (reading ∷ earlier) ≡ is_closed m earlier))
+    → answer (length lanes) earlier reading ≡ e ∷ [] → unhanded new ≡ unhanded lanes → HandsThen names lanes new e text text'
+    → IsHeard reading earlier names model new said text text'
+heard_told reading e earlier names model lanes new said text text' st force none due same h =
+    heard reading earlier names model model lanes new said e text text' st h due (length-unhanded new lanes same) (st.model ∙ sym force)
+    (booked_same names lanes new earlier (reading ∷ earlier) same st.booked (λ m among. none m))

@@ -1,44 +1,11 @@
 -- Laws of what is served.
-use Rattle.std.proofs.Common.{◌≡◌, ℕ, if◌then◌else◌, List, [], ◌∷◌, Option, Some, None, refl, ap, ap₂, sym, ◌∙◌, codes, bytes_eq}
-use Rattle.serde_json.specs.Data.{Data, number, string, object, unsigned, Members, no_members, member}
-use Rattle.desk_requests.specs.Line.{Line, Model, Request, Close, Resize, object_of, IsLawful, AreRead}
+use Rattle.std.proofs.Common.{◌≡◌, ℕ, List, [], ◌∷◌, Option, refl, ap, ap₂, sym, ◌∙◌}
+use Rattle.desk_requests.specs.Line.{Line, object_of, IsLawful, AreRead}
 use Rattle.desk_wire.specs.Reading.{Reading}
 use Rattle.desk_serving.specs.Script.{Served, of_client}
 use Rattle.desk_requests.specs.Due.{answers}
-use Rattle.desk_wire.proofs.ReadOnce.{some_same, read_once}
-
--- ---- a JSON value is at most one line
-
-abbrev text_as : (List ℕ → Option Line) → Data → Option Line
-text_as f (string text) = f text
-text_as f d = None
-
-abbrev number_as : (ℕ → Option Line) → Data → Option Line
-number_as f (number (unsigned n)) = f n
-number_as f d = None
-
-abbrev line_in : Members → Option Line
-line_in (member k d no_members) = Some (Model d)
-line_in (member k d (member l e no_members)) =
-    if bytes_eq k (codes "capacity") then number_as (λ n. text_as (λ name. Some (Resize name n)) e) d else text_as (λ name. Some (Close name)) d
-line_in (member k d (member l inputs (member m e no_members))) = text_as (λ name. text_as (λ service. Some (Request name service inputs)) e) d
-line_in ms = None
-
--- the only line that a JSON value may be
-abbrev line_of_data : Data → Option Line
-line_of_data (object ms) = line_in ms
-line_of_data d = None
-
-line_of_object : (says : Line) → line_of_data (object_of says) ≡ Some says
-line_of_object (Model d) = refl
-line_of_object (Request name service inputs) = refl
-line_of_object (Close name) = refl
-line_of_object (Resize name n) = refl
-
-pub one_line : (says other : Line) → object_of says ≡ object_of other → says ≡ other
-one_line says other e = some_same says other (sym (line_of_object says) ∙ ap line_of_data e ∙ line_of_object other)
-
--- ---- and so each client has one output
+use Rattle.desk_wire.proofs.ReadOnce.{read_once}
+use Rattle.desk_requests.proofs.Readings.{one_line}
 
 pub are_read_once : (lines : List (List ℕ)) (x y : List (Reading Line)) → AreRead lines x → AreRead lines y → x ≡ y
 are_read_once [] [] [] h k = refl

@@ -1,5 +1,5 @@
 -- What is due to a line, and then done, is what the line comes to.
-use Rattle.std.proofs.Common.{◌≡◌, inl, inr, ℕ, Bool, true, false, List, ◌∷◌, ◌++◌, Option, Some, None, Result, Ok, Err, length, slice_get, slice_set, refl, sym, ap, ◌∙◌, subst}
+use Rattle.std.proofs.Common.{◌≡◌, inl, inr, ℕ, Bool, true, false, List, [], ◌∷◌, ◌++◌, Option, Some, None, Result, Ok, Err, length, slice_get, slice_set, refl, sym, ap, ◌∙◌, subst}
 use Rattle.std.specs.Arc.{arc_value}
 use Rattle.serde_json.specs.Data.{Data}
 use Rattle.box_core.specs.Mail.{is_no_capacity}
@@ -17,10 +17,9 @@ use Rattle.desk_wire.specs.declared.word.Word.{Word}
 use Rattle.desk_wire.specs.declared.word.Word.TheVariants as word
 use Rattle.desk_requests.specs.Decider.{DecidesRequest, IsCloseDue, IsModelDue, IsOpenCloseDue, IsOpenResizeDue, IsRefused, IsRequestDue, IsResizeDue, IsTaskDue, IsTold}
 use Rattle.desk_requests.specs.Due.{capacity_answer, close_answer, model_answer, resize_answer, task_answer}
-use Rattle.desk_requests.specs.Line.{Line, Model, Request, Close, Resize}
+use Rattle.desk_requests.specs.Line.{Line, Model, Request, Close, Resize, line_view}
 use Rattle.desk_requests.specs.LineHeard.{IsLineOf}
-use Rattle.desk_requests.specs.LineView.{line_view}
-use Rattle.desk_requests.specs.State.{newer_model, number_after, with_lane}
+use Rattle.desk_requests.specs.State.{has_lane, is_closed, newer_model, number_after, with_lane}
 use Rattle.desk_requests.specs.declared.decider.Seat.{Seat}
 use Rattle.desk_requests.specs.declared.line.Line as held
 use Rattle.desk_requests.proofs.Names.{among_at, set_back}
@@ -32,8 +31,9 @@ use Rattle.desk_serving.specs.declared.named_lanes.Lanes.{Lanes}
 use Rattle.desk_serving.specs.declared.state.State.{State}
 use Rattle.desk_serving.proofs.Hearing.{booked_lane}
 use Rattle.desk_serving.proofs.Laning.{lane_is}
-use Rattle.desk_serving.proofs.Owing.{length-unhanded, unhanded_at}
-use Rattle.desk_serving.proofs.Replying.{IsHeard, heard_close, heard_model, heard_close_no_lane, heard_no_lane, heard_no_model, heard_no_task, heard_put, heard_resize, heard_resize_no_lane, named_close, named_request, named_resize, with_put_if}
+use Rattle.desk_serving.proofs.Owing.{due_to_none, hands_none, hands_then_report, length-unhanded, unhanded_at}
+use Rattle.desk_serving.proofs.Replying.{IsHeard, heard_close, heard_model, heard_close_no_lane, heard_no_lane, heard_no_model, heard_no_task, heard_put, heard_told, named_close, named_request, with_put_if}
+use Rattle.desk_serving.proofs.Standing.{booked_at, stands_named}
 use Rattle.model_marks.specs.declared.mark.Catalog.{Ghosts}
 
 -- ## The lane of a name
@@ -291,15 +291,20 @@ module _ {C R : Type 0} {G : Ghosts C} where
 
     module _ (n : List ℕ) (size : ℕ) (seat : Seat) (at : IsSeat old n (Some seat)) where
       resize_stands : Stands (Says (Resize n size) ∷ earlier) earlier (named n) (model_of old) (lanes_in old.lanes) said
-      resize_stands = named_resize n size earlier (names_in old.lanes) (named n) (model_of old) (lanes_in old.lanes) said st refl
+      resize_stands = stands_named n (Says (Resize n size)) earlier (names_in old.lanes) (named n) (model_of old) (lanes_in old.lanes) said st refl refl
 
       sized_comes : (e : Report) → IsAnswered old n (lanes_in old.lanes) e text text' new → ((lane : Lane) → slice_get (lanes_in old.lanes) seat.place ≡ Some lane → e ≡ resize_answer k n size true lane.closed)
           → Comes (Resize n size)
       sized_comes e a is =
+          let reading = Says (Resize n size) in
           let lane = booked_lane (named n) (lanes_in old.lanes) earlier seat.place n resize_stands.booked at.0 in
+          let book = booked_at (named n) (lanes_in old.lanes) earlier seat.place n lane.0 resize_stands.booked at.0 lane.1 in
+          let inside : has_lane (length (lanes_in old.lanes)) (reading ∷ earlier) n ≡ true = ap (λ ns. is_among ns n) (sym resize_stands.names) ∙ among_at n (named n) seat.place at.0 in
           comes (Resize n size) n (lanes_in old.lanes) e a
-          (heard_resize n size k seat.place e earlier (named n) (model_of old) (lanes_in old.lanes) (lanes_in new.lanes) lane.0 said text text' resize_stands at.0 lane.1 num (is lane.0 lane.1) a.lanes_are
-          (behind n (lanes_in old.lanes) e a))
+          (heard_told reading e earlier (named n) (model_of old) (lanes_in old.lanes) (lanes_in new.lanes) said text text' resize_stands refl (λ m. (refl, refl))
+          (ap (λ b. resize_answer (number_after earlier) n size b (is_closed n earlier) ∷ []) inside
+          ∙ ap (λ x. x ∷ []) (sym (is lane.0 lane.1 ∙ ap (λ j. resize_answer j n size true lane.0.closed) num ∙ ap (resize_answer (number_after earlier) n size true) book.1)))
+          a.lanes_are (behind n (lanes_in old.lanes) e a))
 
       capacity_comes : (b c : Bool) → seat.is_closed ≡ b → is_no_capacity size ≡ c → IsOpenResizeDue n seat size b c what → Comes (Resize n size)
       capacity_comes true c closed none due = sized_comes (Of n k (told.Refused word.Closed)) (refused_done n seat word.Closed due) (λ lane there. ap (resize_answer k n size true) (sym closed ∙ at.1 lane there))
@@ -313,10 +318,15 @@ module _ {C R : Type 0} {G : Ghosts C} where
 
     resize_comes : (n : List ℕ) (size : ℕ) (seat : Option Seat) → IsSeat old n seat → IsResizeDue k n size seat what → Comes (Resize n size)
     resize_comes n size None at due =
-        let d = told_done (Of n k (told.Refused word.Clients)) due in
+        let reading = Says (Resize n size) in let e = Of n k (told.Refused word.Clients) in
+        let names = names_in old.lanes in let lanes = lanes_in old.lanes in
+        let d = told_done e due in
+        let stands : Stands (reading ∷ earlier) earlier names (model_of old) lanes said = stands_named n reading earlier names names (model_of old) lanes said st refl (sym at.0) in
+        let lane : has_lane (length lanes) (reading ∷ earlier) n ≡ false = ap (λ ns. is_among ns n) (sym stands.names) ∙ at.1 in
         as_it_was (Resize n size) d.0
-        (heard_resize_no_lane n size k earlier (names_in old.lanes) (model_of old) (lanes_in old.lanes) said text text'
-        (named_resize n size earlier (names_in old.lanes) (names_in old.lanes) (model_of old) (lanes_in old.lanes) said st (sym at.0)) at.1 num d.1)
+        (heard_told reading e earlier names (model_of old) lanes lanes said text text' stands refl (λ m. (refl, refl))
+        (ap (λ b. resize_answer (number_after earlier) n size b (is_closed n earlier) ∷ []) lane ∙ ap (λ j. Of n j (told.Refused word.Clients) ∷ []) (sym num))
+        refl (hands_then_report names lanes lanes e text text text' (hands_none names lanes text) (due_to_none n names lanes at.1) d.1))
     resize_comes n size (Some seat) at due = capacity_comes n size seat at seat.is_closed (is_no_capacity size) refl refl due
 
     line_comes : (line : Line) → IsDueTo old k line what → Comes line

@@ -1,24 +1,19 @@
 -- What a line makes of what stands between the lines.
-use Rattle.std.proofs.Common.{◌≡◌, ◌<◌, ◌≤◌, ℕ, zero, suc, Bool, true, false, not, List, [], ◌∷◌, ◌++◌, Option, Some, None, Result, Ok, Err, length, take, drop, slice_get, slice_set, if◌then◌else◌, ◌||◌, ◌&&◌, refl, sym, ap, ◌∙◌, arith, append_assoc, append-nil, subst}
+use Rattle.std.proofs.Common.{◌≡◌, ◌<◌, ℕ, zero, suc, Bool, true, false, List, [], ◌∷◌, ◌++◌, Option, Some, None, length, take, drop, slice_get, slice_set, if◌then◌else◌, ◌||◌, refl, sym, ap, ◌∙◌, arith, append_assoc, subst}
 use Rattle.std.specs.Prelude.{bytes_eq, nat_le}
 use Rattle.std.proofs.lemmas.Bool.Decides.{nat_tests}
-use Rattle.std.proofs.lemmas.List.{take_all, take-append-le, length-take, take-append-drop, length-append}
-use Rattle.std.proofs.lemmas.List.Folds.{list_any-append}
-use Rattle.serde_json.specs.Data.{Data}
-use Rattle.dmn_plan.specs.ReadModel.{read_model}
+use Rattle.std.proofs.lemmas.List.{take_all, length-take}
 use Rattle.dmn_plan.specs.Request as plan
-use Rattle.dmn_plan.specs.declared.fault.ModelFault.{ModelFault}
-use Rattle.dmn_plan.specs.declared.fault.TaskFault.{TaskFault}
-use Rattle.desk_requests.specs.Line.{Line, Model, Request, Close, Resize}
+use Rattle.desk_requests.specs.Line.{Line}
 use Rattle.desk_serving.specs.Owed.{Lane, due, due_to, due_to_name, unhanded, AreHanded, AreBooked, Stands}
-use Rattle.desk_requests.specs.State.{AreDistinct, with_lane, with_one, with_requester, callers, names_with_lanes, in_force, newer_model, is_closed, ok_list, requests_under, requests}
-use Rattle.desk_wire.specs.Reading.{Reading, Blank, Long, Syntax, Shape, Says}
+use Rattle.desk_requests.specs.State.{AreDistinct, with_lane, with_one, callers, names_with_lanes, in_force, is_closed, requests}
+use Rattle.desk_wire.specs.Reading.{Reading}
 use Rattle.desk_wire.specs.Reports.{Report}
 use Rattle.desk_serving.specs.Script.{of_client}
 use Rattle.desk_requests.specs.Due.{answer, answers}
 use Rattle.feel_value.specs.Distinct.{is_among}
 use Rattle.desk_serving.proofs.Owing.{of_client-append, due-whole, stripped, length-unhanded}
-use Rattle.desk_requests.proofs.Names.{same_name, name_itself, turned_name, or_true, or_false, not_among_at}
+use Rattle.desk_requests.proofs.Names.{same_name, name_itself, or_true, not_among_at}
 use Rattle.desk_requests.proofs.Callers.{stranger, with_lane-take, distinct-push, IsStranger}
 
 -- ## The lanes' books

@@ -13,9 +13,8 @@ use Rattle.desk_wire.specs.Reports.{Report, Loaded, Of, Reply, report_text}
 use Rattle.desk_wire.specs.declared.heard.Heard.{Heard}
 use Rattle.desk_wire.specs.declared.report.Told.TheVariants as told
 use Rattle.desk_requests.specs.Decider.{Decides}
-use Rattle.desk_requests.specs.Line.{Line, Reads, AreRead}
+use Rattle.desk_requests.specs.Line.{Line, Reads, AreRead, line_view}
 use Rattle.desk_requests.specs.LineHeard.{IsLineOf}
-use Rattle.desk_requests.specs.LineView.{line_view}
 use Rattle.desk_requests.specs.State.{number_after, with_lane}
 use Rattle.desk_requests.specs.declared.decider.Due.{Due}
 use Rattle.desk_requests.specs.declared.decider.Due.TheVariants as due

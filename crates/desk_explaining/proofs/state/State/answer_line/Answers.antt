@@ -1,6 +1,6 @@
-use Rattle.std.proofs.Common.{◌≡◌, ◌++◌, refl, sym, ap, ◌∙◌, subst}
+use Rattle.std.proofs.Common.{refl, subst}
 use Rattle.std.proofs.lemmas.Result.{on_ok_weaker}
-use Rattle.desk_requests.specs.LineView.{line_view}
+use Rattle.desk_requests.specs.Line.{line_view}
 use Rattle.desk_explaining.specs.StateView.{Explains}
 use Rattle.desk_explaining.proofs.Answered.{hears_asked, hears_loaded, hears_told}
 use Rattle.desk_explaining.proofs.state.State.answer_line.Goals as goal

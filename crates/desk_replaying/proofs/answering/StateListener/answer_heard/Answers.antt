@@ -2,7 +2,7 @@ use Rattle.std.proofs.Common.{◌++◌, ap, sym, ◌∙◌, Some}
 use Rattle.std.proofs.lemmas.Result.{on_ok_weaker}
 use Rattle.desk_lines.specs.Lines.{ended}
 use Rattle.desk_wire.specs.Reports.{report_text}
-use Rattle.desk_replaying.specs.LineView.{line_view}
+use Rattle.desk_replaying.specs.Line.{line_view}
 use Rattle.desk_replaying.proofs.Hearing.{after_line, heard_line, heard_no_object, heard_strange}
 use Rattle.desk_replaying.proofs.answering.StateListener.answer_heard.Goals as goal
 

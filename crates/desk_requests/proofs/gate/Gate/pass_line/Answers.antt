@@ -1,4 +1,4 @@
-use Rattle.desk_requests.specs.LineView.{line_view}
+use Rattle.desk_requests.specs.Line.{line_view}
 use Rattle.desk_requests.proofs.Passing.{decided}
 use Rattle.desk_requests.proofs.gate.Gate.pass_line.Goals as goal
 

@@ -1,7 +1,6 @@
 use Rattle.std.proofs.Common.{◌<◌, ◌^◌, arith}
-use Rattle.desk_requests.specs.LineView.{line_view}
-use Rattle.desk_requests.proofs.Asking.{asked}
-use Rattle.desk_requests.proofs.Settling.{decided}
+use Rattle.desk_requests.specs.Line.{line_view}
+use Rattle.desk_requests.proofs.Settling.{asked, decided}
 use Rattle.desk_requests.proofs.register.Register.answer.Goals as goal
 
 pub returns-clause-answers : goal.returns-clause-answers

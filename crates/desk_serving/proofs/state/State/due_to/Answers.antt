@@ -1,4 +1,4 @@
-use Rattle.desk_requests.specs.LineView.{line_view}
+use Rattle.desk_requests.specs.Line.{line_view}
 use Rattle.desk_serving.proofs.Settling.{decided_same, due_decided}
 use Rattle.desk_serving.proofs.state.State.due_to.Goals as goal
 

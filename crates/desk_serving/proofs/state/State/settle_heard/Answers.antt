@@ -1,5 +1,5 @@
 use Rattle.std.proofs.lemmas.Result.{on_ok_weaker}
-use Rattle.desk_requests.specs.LineView.{line_view}
+use Rattle.desk_requests.specs.Line.{line_view}
 use Rattle.desk_serving.proofs.Hearing.{heard_other, heard_said}
 use Rattle.desk_serving.proofs.Settling.{can_be_done, decided}
 use Rattle.desk_serving.proofs.state.State.settle_heard.Goals as goal
