@@ -33,7 +33,7 @@ this and of later faults, at most 100 of each. For a text it says where its read
 With --tables it also lists, for each decision table, values that no rule covers, rules that overlap where that makes
 the result null, rules that never apply and rules that never decide: at most 100 of each kind. With --strict the status
 is then 4 if a table has one of these, or if that can't be decided. A gap counts among values of the kinds that the
-column's tests ask for, and where no output has a default.
+column's tests ask for, and where no output has a default. With domains, gaps and overlaps are those of what can come.
 
 With --gives each decision and service has what it can give, for inputs within their domains: unary tests of constants,
 in the line of the model. Of a file of DMN they are its declared types and values.

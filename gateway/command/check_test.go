@@ -33,23 +33,25 @@ func engineThatKeeps(t *testing.T) (words, input string) {
 // TestCheckHandsDomainsToTheEngine checks that the domains reach the engine, with the options.
 func TestCheckHandsDomainsToTheEngine(t *testing.T) {
 	words, input := engineThatKeeps(t)
-	status, out, errs := runs("", "check", "--gives", "--strict-null", file(t, typed))
-	if status != 0 || !strings.HasPrefix(out, "lawful\n") {
-		t.Fatalf("status %d: %s%s", status, out, errs)
-	}
-	if said, err := os.ReadFile(words); err != nil || string(said) != "check --json --gives --strict-null\n" {
-		t.Errorf("%v: the words are %s", err, said)
-	}
-	text, err := os.ReadFile(input)
-	var line struct {
-		Model   map[string]json.RawMessage
-		Domains map[string]string
-	}
-	if err != nil || json.Unmarshal(text, &line) != nil {
-		t.Fatalf("%v: %s", err, text)
-	}
-	if due := map[string]string{"age": "[0..120]"}; !reflect.DeepEqual(line.Domains, due) || string(line.Model["inputs"]) != `["age"]` {
-		t.Errorf("the line is %s", text)
+	for _, options := range []string{"--gives --strict-null", "--tables", "--tables --strict"} {
+		status, out, errs := runs("", append(append([]string{"check"}, strings.Fields(options)...), file(t, typed))...)
+		if status != 0 || !strings.HasPrefix(out, "lawful\n") {
+			t.Fatalf("status %d: %s%s", status, out, errs)
+		}
+		if said, err := os.ReadFile(words); err != nil || string(said) != "check --json "+options+"\n" {
+			t.Errorf("%v: the words are %s", err, said)
+		}
+		text, err := os.ReadFile(input)
+		var line struct {
+			Model   map[string]json.RawMessage
+			Domains map[string]string
+		}
+		if err != nil || json.Unmarshal(text, &line) != nil {
+			t.Fatalf("%v: %s", err, text)
+		}
+		if due := map[string]string{"age": "[0..120]"}; !reflect.DeepEqual(line.Domains, due) || string(line.Model["inputs"]) != `["age"]` {
+			t.Errorf("%s: the line is %s", options, text)
+		}
 	}
 }
 

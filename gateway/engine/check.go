@@ -56,18 +56,28 @@ func Check(ctx context.Context, path string, memory uint64, text []byte) (*Lawfu
 	if len(lines) == 0 {
 		return nil, nil, errors.New("checking the model: the engine said nothing")
 	}
+	form := &Lawful{}
+	if err := readFirst(lines, form); err != nil {
+		return nil, nil, err
+	}
+	return form, lines[1:], nil
+}
+
+// readFirst reads the first line of a check. If the model has a fault the error is a *FaultyModel.
+func readFirst(lines []Place, form *Lawful) error {
 	var first struct {
-		Lawful
+		*Lawful
 		IsLawful bool   `json:"lawful"`
 		Fault    string `json:"fault"`
 	}
+	first.Lawful = form
 	if err := json.Unmarshal(lines[0], &first); err != nil {
-		return nil, nil, fmt.Errorf("checking the model: %w", err)
+		return fmt.Errorf("checking the model: %w", err)
 	}
 	if !first.IsLawful {
-		return nil, nil, &FaultyModel{Fault: first.Fault, Places: lines[1:]}
+		return &FaultyModel{Fault: first.Fault, Places: lines[1:]}
 	}
-	return &first.Lawful, lines[1:], nil
+	return nil
 }
 
 // tablesOption asks the check for what is found of decision tables: gaps, overlaps, and rules that never decide. givesOption asks for
@@ -105,13 +115,19 @@ func Gives(ctx context.Context, path string, memory uint64, text []byte) (found 
 	return found, nil
 }
 
-// Tables asks what is found about the tables of a valid model: a line for each table and each finding.
+// Tables asks what is found about the tables of a valid model: a line for each table and each finding. The text may have domains; if
+// they can't be taken the error is a *FaultyModel.
 func Tables(ctx context.Context, path string, memory uint64, text []byte) (found []Place, err error) {
 	ctx, stop := context.WithTimeout(ctx, checkPatience)
 	defer stop()
 	lines, err := askLines(ctx, path, memory, text, "check", "--json", tablesOption)
 	if err != nil {
 		return nil, fmt.Errorf("checking the tables: %w", ended(err))
+	}
+	if len(lines) > 0 {
+		if err := readFirst(lines, &Lawful{}); err != nil {
+			return nil, err
+		}
 	}
 	for _, line := range lines {
 		if bytes.HasPrefix(line, []byte(`{"table":`)) || bytes.HasPrefix(line, []byte(`{"finding":`)) {

@@ -4,6 +4,7 @@ import (
 	"context"
 	"encoding/json"
 	"errors"
+	"fmt"
 	"net/http"
 	"sync"
 
@@ -190,24 +191,41 @@ func (s *Service) tables(ctx context.Context, model *served) (analysed, error) {
 	if it.found != nil {
 		return analysed{Tables: it.found, Gives: it.gives}, nil
 	}
-	found, err := engine.Tables(ctx, s.options.Engine, s.options.Memory, model.source.Text)
+	text, err := s.withDomains(model.source)
+	var found []engine.Place
+	if err == nil {
+		found, err = engine.Tables(ctx, s.options.Engine, s.options.Memory, text)
+	}
+	var faulty *engine.FaultyModel
+	if errors.As(err, &faulty) {
+		// Domains of the file that can't be taken: it is looked at without them.
+		found, err = engine.Tables(ctx, s.options.Engine, s.options.Memory, model.source.Text)
+	}
 	if err == nil {
 		it.found, err = tell.TableLines(model.source.Text, found)
 	}
 	if err == nil && s.hasGives {
-		it.gives = s.gives(ctx, model)
+		it.gives = s.gives(ctx, model, text)
 	}
 	return analysed{Tables: it.found, Gives: it.gives}, err
 }
 
+// withDomains returns a model's text with the domains of its inputs, if there are any and the engine reads them.
+func (s *Service) withDomains(source *Source) ([]byte, error) {
+	if !s.hasGives || len(source.Domains) == 0 {
+		return source.Text, nil
+	}
+	text, err := plainJSON(imported{Model: source.Text, Domains: source.Domains})
+	if err != nil {
+		return nil, fmt.Errorf("writing the domains: %w", err)
+	}
+	return text, nil
+}
+
 // gives has in words what a model's decisions can give, but those whose numbers are counted: the engine's numbers are others than the
 // file's.
-func (s *Service) gives(ctx context.Context, model *served) map[string]string {
-	text, err := plainJSON(imported{Model: model.source.Text, Domains: model.source.Domains})
-	var lines []engine.Place
-	if err == nil {
-		lines, err = engine.Gives(ctx, s.options.Engine, s.options.Memory, text)
-	}
+func (s *Service) gives(ctx context.Context, model *served, text []byte) map[string]string {
+	lines, err := engine.Gives(ctx, s.options.Engine, s.options.Memory, text)
 	var found map[string]string
 	if err == nil {
 		found, err = tell.GivesWords(lines)

@@ -45,10 +45,12 @@ type factNote struct {
 
 // A factTable holds the findings about a decision table. What is nil was not decided.
 type factTable struct {
-	Table    string `json:"table"`
-	Complete *bool  `json:"complete"`
-	Asked    *bool  `json:"asked"`
-	Words    *bool  `json:"words"`
+	Table string `json:"table"`
+	// Comes means that the table was looked at for what can come to its columns. Complete, Asked and Words are then the same.
+	Comes    bool  `json:"comes"`
+	Complete *bool `json:"complete"`
+	Asked    *bool `json:"asked"`
+	Words    *bool `json:"words"`
 	// Unique is empty if the hit policy allows overlaps, and null if it was not decided.
 	Unique    json.RawMessage `json:"unique"`
 	Steps     int             `json:"steps"`

@@ -42,7 +42,11 @@ func TableLines(text []byte, found []json.RawMessage) (reported []json.RawMessag
 // lines writes the lines of a table: one about it, and one for each finding.
 func (t *tableReport) lines() error {
 	f := t.facts
-	line := t.placed(nil).raw("complete", answer(f.Complete)).raw("asked", answer(f.Asked)).raw("words", answer(f.Words))
+	line := t.placed(nil)
+	if f.Comes {
+		line = line.raw("comes", "true")
+	}
+	line = line.raw("complete", answer(f.Complete)).raw("asked", answer(f.Asked)).raw("words", answer(f.Words))
 	if len(f.Unique) > 0 {
 		line = line.raw("unique", string(f.Unique))
 	}

@@ -83,15 +83,22 @@ func columnName(input string) string {
 func isTrue(answer *bool) bool  { return answer != nil && *answer }
 func isFalse(answer *bool) bool { return answer != nil && !*answer }
 
+// forComing is the scope of a table that was looked at for what can come to its columns.
+const forComing = " for what can come"
+
 // completeness returns the widest scope that is complete.
 func (t *tableReport) completeness() string {
 	switch f := t.facts; {
+	case f.Comes && isTrue(f.Complete):
+		return "complete" + forComing
 	case isTrue(f.Complete):
 		return "complete"
 	case isTrue(f.Asked):
 		return "complete for " + kindsText(t.kinds)
 	case isTrue(f.Words):
 		return "complete for the words asked"
+	case f.Comes && isFalse(f.Complete):
+		return "not complete" + forComing
 	case isFalse(f.Asked), isFalse(f.Words):
 		return "not complete"
 	}
@@ -105,6 +112,8 @@ func (t *tableReport) overlapWords() string {
 	switch {
 	case !t.hasOverlaps():
 		return ""
+	case isTrue(t.facts.isUnique()) && t.facts.Comes && t.facts.Complete == nil:
+		return ", no two rules overlap" + forComing
 	case isTrue(t.facts.isUnique()):
 		return ", no two rules overlap"
 	case isFalse(t.facts.isUnique()):
@@ -220,16 +229,19 @@ func (t *tableReport) gap(f *factFinding) []string {
 	return append(parts, "null")
 }
 
-// gatherer gathers what all gaps have in common, and reports it after the last.
+// gatherer gathers what all gaps have in common, and reports it after the last. Where a gap lies in what can come it is told whole.
 func (r *rest) gatherer(t *tableReport) func(*factFinding) []string {
+	isPart := func(f *factFinding) bool {
+		return f.Finding == "gap" && (!t.facts.Comes || isFalse(f.IsAsked))
+	}
 	left := 0
 	for _, finding := range t.facts.findings {
-		if finding.Finding == "gap" {
+		if isPart(finding) {
 			left++
 		}
 	}
 	return func(f *factFinding) []string {
-		if f.Finding != "gap" {
+		if !isPart(f) {
 			return nil
 		}
 		t.gather(r, f)

@@ -1,6 +1,10 @@
 package tell
 
-import "strings"
+import (
+	"strings"
+
+	"gateway/model"
+)
 
 // A reportedRules has the rules about which findings report something, by table pointer.
 type reportedRules map[string]map[int]set
@@ -51,13 +55,14 @@ func (t reportedRules) has(it oddity) bool {
 
 const oddDefault = "unused default"
 
-// unusedDefaults warns of defaults in tables where some rule always hits.
+// unusedDefaults warns of defaults in tables where some rule always hits. A default that is not taken for what can come alone is no
+// fault: it is there for other values.
 func (r *report) unusedDefaults() {
 	reported := 0
 	for _, facts := range r.facts.tables {
 		place := placeOf(facts.Table)
 		table := r.file.table(place)
-		if table == nil || !isTrue(facts.Complete) {
+		if table == nil || !isTrue(facts.Complete) || facts.Comes && !hasOpenRule(table) {
 			continue
 		}
 		for at, output := range table.Outputs {
@@ -71,4 +76,23 @@ func (r *report) unusedDefaults() {
 		}
 	}
 	r.moreWarnings(oddDefault, reported-mostPlaces)
+}
+
+// hasOpenRule reports whether some rule hits whatever its columns are.
+func hasOpenRule(table *model.Table) bool {
+	for at := range table.Rules {
+		if isOpen(table.Rules[at].When) {
+			return true
+		}
+	}
+	return false
+}
+
+func isOpen(tests []string) bool {
+	for _, test := range tests {
+		if strings.TrimSpace(test) != "-" {
+			return false
+		}
+	}
+	return true
 }

@@ -263,7 +263,7 @@ def table_of(decision: Json) -> Json | None:
 
 
 def drawn_model(draw: Random) -> Model:
-    """A model with a twin of each table, a service for each decision, three that are given decisions, and one of several."""
+    """A model with a twin of each table, a service for each decision, three that are given decisions, also of twins, and one of several."""
     inputs = [Input.drawn(draw, f"i{n}") for n in range(draw.randint(1, 6))]
     kinds = {it.name: LETTERS[kind_of(it.value(draw))] if it.others or it.borders else "n" for it in inputs}
     model, grows = Model(inputs, []), draw.randrange(12) == 0
@@ -285,5 +285,7 @@ def drawn_model(draw: Random) -> Model:
     model.asks.append(("several", draw.sample(names, min(len(names), 3)), []))
     for n, name in enumerate(draw.sample(names, min(3, len(names)))):
         given = [it for it in model.reached([name], []) if it in names and it != name]
-        model.asks.append((f"given_{n}", [name], draw.sample(given, min(len(given), n + 1))))
+        given = draw.sample(given, min(len(given), n + 1))
+        twins = [it["name"] for it in model.decisions if it["name"] == f"rules_{name}"]
+        model.asks += [(f"given_{n}", [name], given), *((f"given_rules_{n}", [it], given) for it in twins)]
     return model

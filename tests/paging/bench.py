@@ -111,7 +111,7 @@ class Bench:
         self.browser.wait(lambda: "under way" not in self.browser.text("badge"), "the end of the check")
         count = self.browser.js("return document.querySelectorAll('#checks li, #tables li.finding').length")
         assert self.browser.text("badge") == f"Checks {count} to look at", self.browser.text("badge")
-        self.browser.open(self.suite.service("dmn/loan.dmn"))
+        self.browser.open(self.suite.service("dmn/approval.dmn"))
         self.browser.comes(lambda: self.browser.text("badge"), "Checks nothing found", "that nothing was found")
         return ""
 

@@ -65,6 +65,14 @@ TOLD_OF_SEVERAL = [
     {"table": LAST, "complete": True, "asked": True, "words": True, "unique": True, "steps": 9, "undecided": DECIDED},
     {"finding": "overlap", "rules": [0, 1], "witness": [2, 10], "cells": [cell(LEAST, 2, texts=("z",)), cell(10, 12)]},
 ]
+# A table of what can come that is complete for it, and one that isn't.
+COMING = model(["a"], {"d": (["a"], table("U", ["a"], [["< 10"], [">= 10"]])), "e": (["d"], table("U", ["d"], [['"1"'], ['"3"']]))})
+SECOND = "/decisions/1/expr/table"
+TOLD_OF_COMING = [
+    {"table": TABLE, "comes": True, "complete": True, "asked": True, "words": True, "unique": True, "steps": 9, "undecided": DECIDED},
+    {"table": SECOND, "comes": True, "complete": False, "asked": False, "words": False, "unique": True, "steps": 9, "undecided": DECIDED},
+    {"finding": "gap", "rules": [], "witness": ["2"], "cells": [cell(texts=("2",))], "asked": True},
+]
 
 
 class Found:
@@ -159,6 +167,15 @@ class Found:
         assert self.browser.js("return document.activeElement.dataset.at") == "2"
         return ""
 
+    def coming(self) -> str:
+        """Tables that were looked at for what can come."""
+        self.browser.open(self.stood_in("coming", COMING, TOLD_OF_COMING), {"a": 1})
+        self.browser.pick_all()
+        self.browser.comes(self.verdicts, ["complete for what can come; no two rules overlap",
+                                           "not complete for what can come; no two rules overlap"], "what is found")
+        assert self.listed(1) == ['no rule hits: d "2", if the columns may take these values together'], self.listed(1)
+        return ""
+
     def changed(self) -> str:
         """A changed model is checked for the same."""
         self.browser.open(self.stood_in("each", ONE_OF_EACH, TOLD_OF_EACH))
@@ -173,4 +190,5 @@ def run(suite) -> None:
     suite.row("a gap and an overlap, told by a stand-in", rows.stand_in)
     suite.row("a gap and an overlap, told by the engine", rows.engine)
     suite.row("rules that never decide, and other findings of tables", rows.several)
+    suite.row("tables of what can come", rows.coming)
     suite.row("findings of a changed model's table", rows.changed)

@@ -100,7 +100,7 @@ class Told:
 
     def fault(self, columns: int) -> str | None:
         """What is wrong with the form of its lines, if anything is."""
-        if set(self.line) - {"unique", "undecided"} != {"table", "line", "column", "complete", "asked", "words", "steps"}:
+        if set(self.line) - {"unique", "undecided", "comes"} != {"table", "line", "column", "complete", "asked", "words", "steps"}:
             return f"the keys {sorted(self.line)}"
         if any(kind(self.line.get(it)) not in ("bool", "NoneType") for it in ("complete", "asked", "words", "unique")):
             return f"an answer that is none: {self.line}"

@@ -28,7 +28,7 @@ This page lists what the promises rest on; `tools/trust` writes it from the sour
 
 A proof shows that a function does what its contract says, not that this was meant: read the contract and the
 definitions it uses, listed below, lowest crate first and what is used before what uses it. Nothing else has
-to be read. Code that misses its contract and wrong proofs fail the check. Apart from these, trust the toolchain
+to be read. Wrong code and wrong proofs fail the check. Apart from these, trust the toolchain
 (prover, compiler, the ported libraries' own statements), the C library and the operating system. `./desk` hands `serve`
 and `replay` over to `dist/desk`: trust its builder, or build it.
 

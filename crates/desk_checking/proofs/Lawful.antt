@@ -11,7 +11,7 @@ use Rattle.desk_ranges.specs.Gives.{TellsServices, written_name}
 use Rattle.desk_ranges.specs.declared.gives.Gives.{Gives}
 use Rattle.desk_checking.specs.GivesTold.{GivesIf}
 use Rattle.desk_checking.specs.Tables.{Placed}
-use Rattle.desk_checking.specs.TablesTold.{TellsIf, TellsTables}
+use Rattle.desk_checking.specs.TablesTold.{Looked, TellsIf, TellsTables}
 
 pub read_whole : (r : Result (Model Expr Table) ModelFault) → is_ok r ≡ true → (m : Model Expr Table) × (r ≡ Ok m)
 read_whole (Ok m) h = (m, refl)
@@ -19,13 +19,13 @@ read_whole (Err f) h = let wrong : ⊥ = cc in absurd wrong
 
 -- ---- what is told of tables where the options say so
 
-pub untold : (tables strict : Bool) (ts : List Placed) (text : List ℕ) (are_refused : Bool) → tables ≡ false → text ≡ [] → TellsIf tables strict ts text (tables && (strict && are_refused))
-untold true strict ts text are_refused e none = let wrong : ⊥ = cc in absurd wrong
-untold false strict ts text are_refused e none = (none, refl)
+pub untold : (tables strict : Bool) (IsSo : Looked → Type 0) (ts : List Placed) (text : List ℕ) (are_refused : Bool) → tables ≡ false → text ≡ [] → TellsIf tables strict IsSo ts text (tables && (strict && are_refused))
+untold true strict IsSo ts text are_refused e none = let wrong : ⊥ = cc in absurd wrong
+untold false strict IsSo ts text are_refused e none = (none, refl)
 
-pub told : (tables strict : Bool) (ts : List Placed) (text : List ℕ) (are_refused : Bool) → tables ≡ true → TellsTables ts text are_refused → TellsIf tables strict ts text (tables && (strict && are_refused))
-told true strict ts text are_refused e tells = (are_refused, tells, refl)
-told false strict ts text are_refused e tells = let wrong : ⊥ = cc in absurd wrong
+pub told : (tables strict : Bool) (IsSo : Looked → Type 0) (ts : List Placed) (text : List ℕ) (are_refused : Bool) → tables ≡ true → TellsTables IsSo ts text are_refused → TellsIf tables strict IsSo ts text (tables && (strict && are_refused))
+told true strict IsSo ts text are_refused e tells = (are_refused, tells, refl)
+told false strict IsSo ts text are_refused e tells = let wrong : ⊥ = cc in absurd wrong
 
 -- ---- what is told of services where the options say so
 

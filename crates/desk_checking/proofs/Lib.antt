@@ -5,7 +5,13 @@ pub mod FirstFaults
 pub mod Judging
 pub mod Lawful
 pub mod Lines
+pub mod TableNumbers
+pub mod DecisionPlaces
+pub mod AskedWithin
+pub mod LookedAt
 pub mod Lookings
+pub mod Needing
+pub mod ComingTo
 pub mod NeverNull
 pub mod Walks
 pub mod Requesting

@@ -1,10 +1,10 @@
 -- The lines that are put together of pieces.
-use Rattle.std.proofs.Common.{◌≡◌, ◌+◌, ◌-◌, ℕ, suc, zero, Bool, true, false, List, [], ◌∷◌, ◌++◌, append_assoc, append-nil, codes, decimal, map, refl, sym, ap, ◌∙◌, Option, Some, None, option_map, IfSome}
+use Rattle.std.proofs.Common.{◌≡◌, ℕ, suc, Bool, true, false, List, [], ◌∷◌, ◌++◌, append_assoc, append-nil, codes, decimal, refl, sym, ap, ◌∙◌, Option, Some, None, option_map, IfSome}
 use Rattle.std.specs.List.{flat_map}
 use Rattle.std.specs.Option.{is_none}
 use Rattle.std.proofs.lemmas.Grind.{flat_map-append}
 use Rattle.json.specs.Print.{escape_byte, quoted}
-use Rattle.serde_json.specs.Data.{Data, string, object, array, Items, no_items, item, Members, no_members, member}
+use Rattle.serde_json.specs.Data.{Data, array, Items, item, no_members}
 use Rattle.serde_json.specs.Written.{comma_if, compact_text, items_text, members_text}
 use Rattle.desk_lines.specs.Lines.{ended}
 use Rattle.desk_wire.specs.Words.{fault_word, word_text}
@@ -20,7 +20,7 @@ use Rattle.dmn_check.specs.declared.told.Told as told
 use Rattle.desk_requests.specs.declared.refused.RefusedLine.{RefusedLine}
 use Rattle.desk_checking.specs.declared.findings.CheckFault.{CheckFault}
 use Rattle.desk_checking.specs.Known.{known_lines}
-use Rattle.desk_checking.specs.Told.{decision_told, decisions_told, fault_line, fault_of, found_word, kind_of, lawful_line, lines_of_fault, long_line, more_line, more_lines, more_refused, number_told, place_line, refused_line, service_told, services_told, texts_told, unless_unknown, with_word}
+use Rattle.desk_checking.specs.Told.{decision_told, decisions_told, fault_line, fault_of, found_word, kind_of, lawful_line, lines_of_fault, long_line, more_line, more_refused, place_line, refused_line, service_told, services_told, texts_told, unless_unknown, with_word}
 
 -- ---- a model with a fault
 

@@ -1,16 +1,15 @@
 -- Output entries that always have the same value, or never.
-use Rattle.std.proofs.Common.{◌≡◌, ◌∙◌, ◌+◌, ◌<◌, ◌≢◌, ap, refl, subst, sym, ℕ, ℤ, pos, negsuc, List, [], map, length, get_or, Bool, true, false, not, ◌&&◌, if◌then◌else◌, Option, None, Some, IfSome, IsTrue, option_map, arith, below_more, bytes_eq}
+use Rattle.std.proofs.Common.{◌≡◌, ◌∙◌, ◌+◌, ◌<◌, ap, refl, subst, sym, ℕ, ℤ, pos, negsuc, List, [], map, length, get_or, Bool, true, false, not, ◌&&◌, if◌then◌else◌, Option, None, Some, option_map, arith, below_more}
 use Rattle.std.specs.Prelude.{nat_le, unsigned_abs, ◌-ℤ◌}
 use Rattle.std.specs.List.{slice_get}
 use Rattle.std.proofs.lemmas.Int.{ints}
 use Rattle.std.proofs.lemmas.Option.{same_Some, slice_get-map, slice_get_read, slice_get_within}
 use Rattle.feel_value.specs.Comparison.{equal}
-use Rattle.feel_value.specs.Datum.{Datum, null, boolean, number, text, list, context}
+use Rattle.feel_value.specs.Datum.{Datum, null, number}
 use Rattle.feel_value.specs.Found.{value_of}
 use Rattle.feel_value.specs.Limits.{greatest_number, in_range, keeps_size, names_distinct}
 use Rattle.feel_value.specs.Logic.{is_yes}
 use Rattle.feel_value.specs.Outcome.{held}
-use Rattle.feel_value.specs.declared.feel.Outcome.{Outcome}
 use Rattle.feel_value.specs.declared.feel.Outcome.TheVariants.{Is, Limit}
 use Rattle.feel_value.proofs.Laws.{equal_itself}
 use Rattle.feel_text.specs.Constants.{expr_of_constant}
@@ -22,7 +21,7 @@ use Rattle.dmn_table.specs.Parts.{rule_view}
 use Rattle.dmn_table.specs.Table.{Rule}
 use Rattle.dmn_table.specs.declared.table.Rule as code
 use Rattle.desk_checking.specs.Literals.{HasValue, TellsLiteral, TellsPair}
-use Rattle.desk_checking.specs.Outputs.{AreEntries, AreEqual, AreSame, Differ}
+use Rattle.desk_checking.specs.Outputs.{AreEntries, AreEqual, AreSame}
 
 -- ---- literals
 

@@ -1,5 +1,5 @@
 -- The lines of tables that are put together of pieces.
-use Rattle.std.proofs.Common.{◌≡◌, ◌∙◌, ◌+◌, ◌<◌, ℕ, suc, zero, Bool, true, false, List, [], ◌∷◌, ◌++◌, append_assoc, arith, codes, decimal, refl, ap, if◌then◌else◌, Option, Some, None}
+use Rattle.std.proofs.Common.{◌≡◌, ◌∙◌, ◌<◌, ℕ, suc, zero, Bool, true, false, List, [], ◌∷◌, ◌++◌, append_assoc, arith, codes, decimal, refl, ap, if◌then◌else◌, Option, Some, None}
 use Rattle.std.specs.Prelude.{int_le}
 use Rattle.std.specs.Arc.{arc_str_bytes}
 use Rattle.std.specs.List.{flat_map, slice_get}
@@ -20,8 +20,8 @@ use Rattle.dmn_analysis.specs.declared.found.Mask.{Mask}
 use Rattle.dmn_analysis.specs.declared.found.Overlap.{Overlap}
 use Rattle.dmn_analysis.specs.declared.found.Overlaps.{Overlaps}
 use Rattle.desk_checking.specs.Answering.{gaps_of_kinds, gaps_of_words, is_complete}
-use Rattle.desk_checking.specs.TablePieces.{begin_text, bound_text, flags_text, head_text, numbers_text, others_text, tail_text, unique_text, witness_text}
-use Rattle.desk_checking.specs.TableTold.{answer_told, bound_told, cell_told, cells_told, gap_line, have_others, mask_line, more_findings, never_line, numbers_of, others_told, overlap_line, table_line, undecided_told, unique_told, behind_unique, values_told, word_before, words_told}
+use Rattle.desk_checking.specs.TablePieces.{begin_text, bound_text, flags_text, head_text, known_text, numbers_text, place_text, others_text, tail_text, unique_text, witness_text}
+use Rattle.desk_checking.specs.TableTold.{answer_told, bound_told, cell_told, cells_told, gap_line, have_others, known_told, mask_line, more_findings, never_line, numbers_of, others_told, overlap_line, table_line, undecided_told, unique_told, behind_unique, values_told, word_before, words_told}
 use Rattle.desk_checking.specs.Told.{numbers_told}
 use Rattle.desk_checking.specs.declared.answers.Answers.{Answers}
 use Rattle.desk_checking.specs.declared.undecided.Undecided.{Undecided}
@@ -41,6 +41,12 @@ five_pieces t a b c d e = simp append_assoc
 pub eight : (t a b c d e f g h : List ℕ) → (((((((t ++ a) ++ b) ++ c) ++ d) ++ e) ++ f) ++ g) ++ h ≡ t ++ (((((((a ++ b) ++ c) ++ d) ++ e) ++ f) ++ g) ++ h)
 eight t a b c d e f g h = simp append_assoc
 
+pub three_pieces : (t a b c : List ℕ) → ((t ++ a) ++ b) ++ c ≡ t ++ ((a ++ b) ++ c)
+three_pieces t a b c = simp append_assoc
+
+pub seven_pieces : (t a b c d e f g : List ℕ) → ((((((t ++ a) ++ b) ++ c) ++ d) ++ e) ++ f) ++ g ≡ t ++ ((((((a ++ b) ++ c) ++ d) ++ e) ++ f) ++ g)
+seven_pieces t a b c d e f g = simp append_assoc
+
 -- ---- the line of a table
 
 undecided_shape : (t r o k i s : List ℕ)
@@ -57,11 +63,26 @@ undecided_pieces t u =
     undecided_shape t (compact_text (array (numbers_told u.rules.items))) (compact_text (array (numbers_told u.outputs.items))) (compact_text (array (numbers_told u.ranks.items)))
     (compact_text (array (numbers_told u.idle.items))) (compact_text (boolean u.steps))
 
-line_shape : (t p c a w m : List ℕ)
-    → (t ++ (((((((codes "{\"table\":" ++ p) ++ codes ",\"complete\":") ++ c) ++ codes ",\"asked\":") ++ a) ++ codes ",\"words\":") ++ w)) ++ (m ++ codes "\n")
-    ≡ t ++ ended (123 ∷ (quoted (codes "table") ++ 58 ∷ (p ++ 44 ∷ (quoted (codes "complete") ++ 58 ∷ (c ++ 44 ∷ (quoted (codes "asked") ++ 58 ∷ (a ++ 44 ∷ (quoted (codes "words") ++ 58 ∷ (w ++ m)))))))))
+answers_shape : (t p c a w m n : List ℕ)
+    → (t ++ ((((((p ++ codes ",\"complete\":") ++ c) ++ codes ",\"asked\":") ++ a) ++ codes ",\"words\":") ++ w)) ++ (m ++ n)
+    ≡ (t ++ p) ++ ((44 ∷ (quoted (codes "complete") ++ 58 ∷ (c ++ 44 ∷ (quoted (codes "asked") ++ 58 ∷ (a ++ 44 ∷ (quoted (codes "words") ++ 58 ∷ (w ++ m))))))) ++ n)
 unfolding escape_byte
-line_shape t p c a w m = simp append_assoc
+answers_shape t p c a w m n = simp append_assoc
+
+known_shape : (m n : List ℕ) → codes ",\"comes\":true" ++ (m ++ n) ≡ (44 ∷ (quoted (codes "comes") ++ 58 ∷ (codes "true" ++ m))) ++ n
+unfolding escape_byte
+known_shape m n = simp append_assoc
+
+known_is : (b : Bool) (ms : Members) (n : List ℕ) → known_text b ++ (members_text true ms ++ n) ≡ members_text true (known_told b ms) ++ n
+known_is false ms n = refl
+known_is true ms n = known_shape (members_text true ms) n
+
+place_behind : (t a b c : List ℕ) → (t ++ (a ++ b)) ++ c ≡ (t ++ a) ++ (b ++ c)
+place_behind t a b c = simp append_assoc
+
+line_shape : (t p m : List ℕ) → (t ++ (codes "{\"table\":" ++ p)) ++ (m ++ codes "\n") ≡ t ++ ended (123 ∷ (quoted (codes "table") ++ 58 ∷ (p ++ m)))
+unfolding escape_byte
+line_shape t p m = simp append_assoc
 
 tail_shape : (n u : List ℕ) → (((codes ",\"steps\":" ++ n) ++ codes ",\"undecided\":") ++ u) ++ codes "}\n"
     ≡ (44 ∷ (quoted (codes "steps") ++ 58 ∷ (n ++ 44 ∷ (quoted (codes "undecided") ++ 58 ∷ (u ++ 125 ∷ []))))) ++ codes "\n"
@@ -80,13 +101,20 @@ unique_is None ms n = refl
 unique_is (Some o) ms n = unique_shape _ (members_text true ms) n
 
 pub table_pieces : (t p : List ℕ) (a : Answers) (steps : ℕ) (u : Undecided)
-    → ((t ++ head_text p (is_complete a.every) (is_complete (gaps_of_kinds a)) (is_complete (gaps_of_words a))) ++ unique_text a.overlaps) ++ tail_text steps u ≡ t ++ ended (table_line p a steps u)
+    → ((t ++ head_text p a.are_known (is_complete a.every) (is_complete (gaps_of_kinds a)) (is_complete (gaps_of_words a))) ++ unique_text a.overlaps) ++ tail_text steps u ≡ t ++ ended (table_line p a steps u)
 table_pieces t p a steps u =
-    let head = head_text p (is_complete a.every) (is_complete (gaps_of_kinds a)) (is_complete (gaps_of_words a)) in
+    let complete = answer_told (is_complete a.every) in
+    let asked = answer_told (is_complete (gaps_of_kinds a)) in
+    let words = answer_told (is_complete (gaps_of_words a)) in
+    let head = head_text p a.are_known (is_complete a.every) (is_complete (gaps_of_kinds a)) (is_complete (gaps_of_words a)) in
+    let rest = unique_told a.overlaps (behind_unique steps u) in
+    let answers = member (codes "complete") complete (member (codes "asked") asked (member (codes "words") words rest)) in
     append_assoc (t ++ head) (unique_text a.overlaps) (tail_text steps u)
     ∙ ap (λ s. (t ++ head) ++ s) (ap (λ s. unique_text a.overlaps ++ s) (tail_is steps u) ∙ unique_is a.overlaps (behind_unique steps u) (codes "\n"))
-    ∙ line_shape t (quoted p) (compact_text (answer_told (is_complete a.every))) (compact_text (answer_told (is_complete (gaps_of_kinds a)))) (compact_text (answer_told (is_complete (gaps_of_words a))))
-    (members_text true (unique_told a.overlaps (behind_unique steps u)))
+    ∙ answers_shape t (place_text p a.are_known) (compact_text complete) (compact_text asked) (compact_text words) (members_text true rest) (codes "\n")
+    ∙ place_behind t (codes "{\"table\":" ++ quoted p) (known_text a.are_known) (members_text true answers ++ codes "\n")
+    ∙ ap (λ s. (t ++ (codes "{\"table\":" ++ quoted p)) ++ s) (known_is a.are_known answers (codes "\n"))
+    ∙ line_shape t (quoted p) (members_text true (known_told a.are_known answers))
 
 -- ---- values of columns
 

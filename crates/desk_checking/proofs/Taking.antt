@@ -51,9 +51,9 @@ all_hit t asked g tells h =
     let none = neither (nat_lt 0 g.more) (not (is_empty g.found.items)) e.0 in
     tells.complete e.1 (is_zero g.more none.0) (is_nothing g.found.items none.1)
 
-answered_by : (t : Table) (a : Answers) (o : Option Gaps) → IsFound t a → IfSome o (TellsGaps t a.kinds.items) → is_yes (is_complete (unwrap_or o a.every)) ≡ true → IsAnswered t
-answered_by t a None found tells h = record { asked = found.all; are = inr found.all_are; complete = all_hit t found.all a.every found.every h }
-answered_by t a (Some g) found tells h = record { asked = a.kinds.items; are = inl found.kinds; complete = all_hit t a.kinds.items g tells h }
+answered_by : (t : Table) (comes : Option (List Asked)) (a : Answers) (o : Option Gaps) → IsFound t comes a → IfSome o (TellsGaps t a.kinds.items) → is_yes (is_complete (unwrap_or o a.every)) ≡ true → IsAnswered t comes
+answered_by t comes a None found tells h = record { asked = found.whole; are = inr found.whole_are; complete = all_hit t found.whole a.every found.every h }
+answered_by t comes a (Some g) found tells h = record { asked = a.kinds.items; are = inl found.kinds; complete = all_hit t a.kinds.items g tells h }
 
 -- ---- no two rules hit
 
@@ -93,8 +93,8 @@ all_decide t (Some is) h e = h (is_nothing is.items e)
 
 -- ---- all of it
 
-pub taken : (t : Table) (a : Answers) → IsFound t a → is_refused t a ≡ false → IsTaken t
-taken t a found passes =
+pub taken : (t : Table) (comes : Option (List Asked)) (a : Answers) → IsFound t comes a → is_refused t a ≡ false → IsTaken t comes
+taken t comes a found passes =
     let both = neither (is_faulty t a) (outputs_fail t.policy a.same || idle_fail a.idle) passes in
     let rest = neither (outputs_fail t.policy a.same) (idle_fail a.idle) both.1 in
     let rules = neither (lacks_rules t a) (overlaps_fail a.overlaps a.faults || (not (is_empty a.never.items) || masks_fail a.masks)) both.0 in
@@ -102,10 +102,10 @@ taken t a found passes =
     record {
       answered =
           elim (either (is_yes (is_complete (gaps_of_kinds a))) (list_all (λ (c : Column). is_none c.fallback) t.outputs) rules.0) [
-            | inl h ↦ inl (answered_by t a a.of_kinds found found.of_kinds h)
+            | inl h ↦ inl (answered_by t comes a a.of_kinds found found.of_kinds h)
             | inr h ↦ inr h
           ];
       decide = all_decide t a.idle found.idle rest.1;
-      same_hits = λ is. record { asked = found.all; are = found.all_are; same = found.same (known_same t.policy a.same is rest.0) };
-      one_hit = λ is. record { asked = found.all; are = found.all_are; unique = one_hit t found.all a.overlaps a.faults is found.counted found.overlaps found.faults overlaps.0 };
+      same_hits = λ is. record { asked = found.whole; are = found.whole_are; same = found.same (known_same t.policy a.same is rest.0) };
+      one_hit = λ is. record { asked = found.whole; are = found.whole_are; unique = one_hit t found.whole a.overlaps a.faults is found.counted found.overlaps found.faults overlaps.0 };
     }

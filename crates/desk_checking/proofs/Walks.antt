@@ -1,15 +1,14 @@
 -- Tables that are found part by part are those of the whole.
-use Rattle.std.proofs.Common.{◌≡◌, ◌∙◌, ◌+◌, ◌<◌, ℕ, List, [], ◌∷◌, ◌++◌, append_assoc, append-nil, map, length, get_or, drop, refl, sym, ap, Vec, Box, Global, rules}
+use Rattle.std.proofs.Common.{◌≡◌, ◌∙◌, ◌+◌, ◌<◌, ℕ, List, [], ◌∷◌, ◌++◌, append_assoc, length, get_or, drop, sym, ap, Vec, Box, Global, rules}
 use Rattle.std.proofs.lemmas.List.{at_drop_more}
-use Rattle.feel_text.specs.Expr.{Expr}
 use Rattle.dmn_table.specs.Table.{Table}
 use Rattle.dmn_logic.specs.LogicView.{entries_view, logic_view, members_view}
 use Rattle.dmn_logic.proofs.Boxes.{Named, logic_view-Context, logic_view-ContextWith}
-use Rattle.dmn_logic.specs.declared.logic.Logic.{Logic, Expression, Table as TableOf, List as ListOf, Context, ContextWith, the_lemmas}
+use Rattle.dmn_logic.specs.declared.logic.Logic.{Logic, Table as TableOf, List as ListOf, Context, ContextWith, the_lemmas}
 use Rattle.dmn_check.specs.declared.place.Key.TheVariants as key
 use Rattle.dmn_check.specs.declared.place.Step.{Step}
 use Rattle.dmn_check.specs.declared.place.Step.TheVariants as step
-use Rattle.desk_checking.specs.Tables.{Placed, behind, entry_tables, logic_tables, member_tables, tables_in}
+use Rattle.desk_checking.specs.Tables.{Placed, behind, entry_tables, member_tables, tables_in}
 
 -- ---- one level
 
@@ -55,8 +54,8 @@ walked_with at inner logic v b es last old middle new is same value place first 
     ∙ ap (λ ts. ts ++ result) (first ∙ ap (λ (xs : List Named). old ++ entry_tables (behind at (step.Key key.Context)) 0 (entries_view xs)) same)
     ∙ append_assoc old entries result ∙ ap (λ ts. old ++ ts) (sym (ap (λ l. tables_in at (logic_view l)) is ∙ at_context_with at v b))
 
--- one turn along an array, whose tables from an index on are given by a function
-pub turn : {X : Type 0} (f : ℕ → List X → List Placed) (head : ℕ → X → List Placed) → ((i : ℕ) (x : X) (xs : List X) → f i (x ∷ xs) ≡ head i x ++ f (i + 1) xs) → (xs : List X) (i : ℕ) (x : X) (old new whole : List Placed)
+-- one turn along an array, of which what is found from an index on is given by a function
+pub turn : {X Y : Type 0} (f : ℕ → List X → List Y) (head : ℕ → X → List Y) → ((i : ℕ) (x : X) (xs : List X) → f i (x ∷ xs) ≡ head i x ++ f (i + 1) xs) → (xs : List X) (i : ℕ) (x : X) (old new whole : List Y)
     → old ++ f i (drop i xs) ≡ whole → x ≡ get_or xs i x → i < length xs → new ≡ old ++ head i x → new ++ f (i + 1) (drop (i + 1) xs) ≡ whole
 turn f head one xs i x old new whole before here more added =
     ap (λ ts. ts ++ f (i + 1) (drop (i + 1) xs)) added ∙ append_assoc old (head i x) (f (i + 1) (drop (i + 1) xs)) ∙ ap (λ ts. old ++ ts) (sym (one i x (drop (i + 1) xs)))

@@ -1,8 +1,10 @@
 -- What is found of a decision table: what `dmn_analysis` answers, and when `--strict` refuses the table.
-use Rattle.std.specs.Prelude.{◌≡◌, ◌+◌, ℕ, List, [], ◌∷◌, Bool, true, false, not, ◌&&◌, ◌||◌, nat_lt, Option, None, Some, IfSome, unwrap_or, Vec}
-use Rattle.std.specs.List.{All, list_all}
+use Rattle.std.specs.Prelude.{◌≡◌, ◌+◌, ℕ, List, [], ◌∷◌, map, Bool, true, false, not, ◌&&◌, ◌||◌, nat_lt, int_le, Option, None, Some, IfSome, unwrap_or, Vec, if◌then◌else◌}
+use Rattle.std.specs.Arc.{arc_str_bytes}
+use Rattle.std.specs.List.{All, list_all, slice_get}
 use Rattle.std.specs.Option.{is_none, is_some}
 use Rattle.std.specs.declared.alloc.Global.{Global}
+use Rattle.std.specs.declared.sync.ArcStr.{ArcStr}
 use Rattle.feel_value.specs.Datum.{Datum}
 use Rattle.dmn_table.specs.Table.{Column, Rule, Table}
 use Rattle.dmn_table.specs.declared.hit_policy.HitPolicy.{HitPolicy}
@@ -11,10 +13,15 @@ use Rattle.dmn_analysis.specs.Asked.{is_asked, is_in_utf8}
 use Rattle.dmn_analysis.specs.Claims.{IsMaskedAmong, IsNeverMetAmong, TellsGaps, TellsOverlaps}
 use Rattle.dmn_analysis.specs.Kinds.{AskKinds}
 use Rattle.dmn_analysis.specs.declared.asked.Asked.{Asked}
+use Rattle.dmn_analysis.specs.declared.asked.Numbers.{Numbers}
+use Rattle.dmn_analysis.specs.declared.asked.Numbers.TheVariants as numbers
+use Rattle.dmn_analysis.specs.declared.asked.Texts.{Texts}
+use Rattle.dmn_analysis.specs.declared.asked.Texts.TheVariants as texts
 use Rattle.dmn_analysis.specs.declared.found.Gaps.{Gaps}
 use Rattle.dmn_analysis.specs.declared.found.Masks.{Masks}
 use Rattle.dmn_analysis.specs.declared.found.Overlap.{Overlap}
 use Rattle.dmn_analysis.specs.declared.found.Overlaps.{Overlaps}
+use Rattle.dmn_ranges.specs.Numbers.{least_number, most_number}
 use Rattle.desk_checking.specs.Deciding.{EachCanDecide}
 use Rattle.desk_checking.specs.Outputs.{HitsGiveSame, TellsOutputs}
 use Rattle.desk_checking.specs.declared.answers.Answers.{Answers}
@@ -54,9 +61,67 @@ gaps_of_words a = unwrap_or a.of_words (gaps_of_kinds a)
 abbrev pub AskUtf8 : List Asked → Type 0
 AskUtf8 asked = All (λ a. (v : Datum) → is_in_utf8 v ≡ true → is_asked a v ≡ true) asked
 
-pub record TellsWords (t : Table) (gaps : Gaps) : Type 0 where
+-- What gaps and overlaps are looked for among: every value; or what comes to the table, where that is known.
+abbrev pub AskWhole : Option (List Asked) → List Asked → Type 0
+AskWhole None asked = AskUtf8 asked
+AskWhole (Some comes) asked = asked ≡ comes
+
+-- all numbers that values can be
+abbrev pub are_all_numbers : Numbers → Bool
+are_all_numbers numbers.None = false
+are_all_numbers (numbers.Between low high) = int_le low least_number && int_le most_number high
+are_all_numbers numbers.All = true
+
+-- all texts, or all in UTF-8
+abbrev pub are_all_texts : Texts → Bool
+are_all_texts texts.None = false
+are_all_texts (texts.These ts) = false
+are_all_texts texts.Utf8 = true
+are_all_texts texts.All = true
+
+abbrev pub is_every : Asked → Bool
+is_every a = (a.null && a.truths) && (a.parted && (are_all_numbers a.numbers && are_all_texts a.texts))
+
+-- the same texts
+abbrev pub AreSameTexts : Texts → Texts → Type 0
+AreSameTexts texts.None t = t ≡ texts.None
+AreSameTexts texts.Utf8 t = t ≡ texts.Utf8
+AreSameTexts texts.All t = t ≡ texts.All
+AreSameTexts (texts.These ts) t = (us : Vec (ArcStr Global) Global) × (t ≡ texts.These us) × (map arc_str_bytes us.items ≡ map arc_str_bytes ts.items)
+
+-- the same values
+pub record AreSame (a b : Asked) : Type 0 where
+  pub null : b.null ≡ a.null
+  pub truths : b.truths ≡ a.truths
+  pub numbers : b.numbers ≡ a.numbers
+  pub texts : AreSameTexts a.texts b.texts
+  pub parted : b.parted ≡ a.parted
+
+-- What is asked about in a column to which these values come, with tests of these kinds: the values that come; or those of the kinds, where
+-- every value comes.
+abbrev pub IsNarrowed : Option Asked → Option Asked → Asked → Type 0
+IsNarrowed None kinds a = ⊥
+IsNarrowed (Some c) None a = AreSame c a
+IsNarrowed (Some c) (Some k) a = AreSame (if is_every c then k else c) a
+
+abbrev pub AreNarrowed : List Asked → List Asked → List Asked → Type 0
+AreNarrowed comes kinds asked = (k : ℕ) (a : Asked) → slice_get asked k ≡ Some a → IsNarrowed (slice_get comes k) (slice_get kinds k) a
+
+-- that of each column of a table
+pub record AskNarrowed (words_only : Bool) (t : Table) (comes asked : List Asked) : Type 0 where
+  pub kinds : List Asked
+  pub are : AskKinds words_only t kinds
+  pub narrowed : AreNarrowed comes kinds asked
+
+-- What is asked about before all else: values of the kinds of the constants in the tests; or what comes to the table, but of a column to which
+-- every value comes values of these kinds.
+abbrev pub AskBy : Bool → Option (List Asked) → Table → List Asked → Type 0
+AskBy words_only None t asked = AskKinds words_only t asked
+AskBy words_only (Some comes) t asked = AskNarrowed words_only t comes asked
+
+pub record TellsWords (t : Table) (comes : Option (List Asked)) (gaps : Gaps) : Type 0 where
   pub words : List Asked
-  pub asked : AskKinds true t words
+  pub asked : AskBy true comes t words
   pub tells : TellsGaps t words gaps
 
 -- the hit policies under which overlaps count
@@ -109,23 +174,27 @@ abbrev pub AreFaults : Table → Option Overlaps → Faults → Type 0
 AreFaults t None faults = (faults.places.items ≡ []) × (faults.«open» ≡ None)
 AreFaults t (Some o) faults = AreAgainst t.policy t.rules o.found.items faults
 
--- What is found of a table: gaps among every value, and among the kinds of the constants in its tests; overlaps, where they count; rules
--- that never hit; masked ones, where one of several hits decides; under `A` whether all that hit give the same; and rules of which it
--- isn't known that they can decide. Each is what it says it is.
-pub record IsFound (t : Table) (a : Answers) : Type 0 where
+-- What is found of a table, to which these values come, where that is known: gaps among every value, and among the kinds of the constants
+-- in its tests; overlaps, where they count; rules that never hit; masked ones, where one of several hits decides; under `A` whether all that
+-- hit give the same; and rules of which it isn't known that they can decide. Each is what it says it is. Where it is known what comes,
+-- gaps and overlaps are those among that, and so is whether all give the same.
+pub record IsFound (t : Table) (comes : Option (List Asked)) (a : Answers) : Type 0 where
   pub all : List Asked
   pub all_are : AskUtf8 all
-  pub every : TellsGaps t all a.every
-  pub kinds : AskKinds false t a.kinds.items
+  pub whole : List Asked
+  pub whole_are : AskWhole comes whole
+  pub every : TellsGaps t whole a.every
+  pub known : a.are_known ≡ is_some comes
+  pub kinds : AskBy false comes t a.kinds.items
   pub of_kinds : IfSome a.of_kinds (TellsGaps t a.kinds.items)
-  pub of_words : IfSome a.of_words (TellsWords t)
+  pub of_words : IfSome a.of_words (TellsWords t comes)
   pub counted : is_some a.overlaps ≡ counts_overlaps t.policy
-  pub overlaps : IfSome a.overlaps (TellsOverlaps t all)
+  pub overlaps : IfSome a.overlaps (TellsOverlaps t whole)
   pub faults : AreFaults t a.overlaps a.faults
   pub never : All (IsNeverMetAmong t all) a.never.items
   pub ordered : is_some a.masks ≡ has_order t.policy
   pub masks : IfSome a.masks (λ (ms : Masks). All (λ m. IsMaskedAmong t all m.rule) ms.found.items)
-  pub same : a.same ≡ Some true → HitsGiveSame t all
+  pub same : a.same ≡ Some true → HitsGiveSame t whole
   pub idle : IfSome a.idle (λ (is : Vec ℕ Global). is.items ≡ [] → EachCanDecide t)
 
 -- ---- what `--strict` refuses

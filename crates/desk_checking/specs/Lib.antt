@@ -11,10 +11,12 @@ pub mod Deciding
 pub mod Answering
 pub mod Judged
 pub mod Strict
+pub mod Comes
 pub mod NeverNull
 pub mod TableTold
 pub mod TablePieces
 pub mod TablesTold
+pub mod ComesView
 pub mod GivesTold
 pub mod Looking
 pub mod Requests

@@ -19,7 +19,7 @@ use Rattle.desk_checking.specs.GivesTold.{GivesIf, looks_at_services, service_na
 use Rattle.desk_checking.specs.Input.{model_text, request_lines}
 use Rattle.desk_checking.specs.Requests.{AreRefused}
 use Rattle.desk_checking.specs.Tables.{tables_of}
-use Rattle.desk_checking.specs.TablesTold.{TellsIf}
+use Rattle.desk_checking.specs.TablesTold.{IsWithin, TellsIf}
 use Rattle.desk_checking.specs.Told.{faulty_lines, lawful_line, refusal_lines}
 use Rattle.desk_checking.specs.declared.findings.CheckFault.{CheckFault}
 use Rattle.desk_checking.specs.declared.findings.CheckFindings.{CheckFindings}
@@ -42,7 +42,7 @@ abbrev pub no_failure : Failures
 no_failure = record { tables = false; nulls = false }
 
 -- What is told of a model without a fault, beside which this is declared: that it has none, with its parts; what its services can give
--- within the domains; what is found of its tables; and the lines of requests behind it that `serve` refuses. A table that `--strict`
+-- within the domains; what is found of its tables for what comes to them; and the lines of requests behind it that `serve` refuses. A table that `--strict`
 -- refuses is a failure, where the options are strict, and so is null under `--strict-null`.
 pub record TellsModel (options : CheckOptions) (d : Data) (beside : Option Data) (requests : List (List ℕ)) (refused : List RefusedLine) (failures : Failures) (text : List ℕ) : Type 0 where
   pub model : Draft
@@ -54,7 +54,7 @@ pub record TellsModel (options : CheckOptions) (d : Data) (beside : Option Data)
   pub gives : List ℕ
   pub can : GivesIf (looks_at_services options) options.strict_null (compact_text d) domains (service_names model) gives failures.nulls
   pub tables : List ℕ
-  pub told : TellsIf options.tables options.strict (tables_of lawful) tables failures.tables
+  pub told : TellsIf options.tables options.strict (IsWithin lawful domains (service_names model)) (tables_of lawful) tables failures.tables
   pub count : ℕ
   pub are : AreRefused d requests refused count
   pub is : text ≡ ended (lawful_line model) ++ (gives ++ (tables ++ flat_map ended (refusal_lines refused count)))

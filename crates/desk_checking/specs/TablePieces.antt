@@ -1,5 +1,5 @@
 -- Internal, cited by no public contract: the pieces of the lines of tables.
-use Rattle.std.specs.Prelude.{ℕ, zero, suc, List, [], ◌∷◌, ◌++◌, Bool, int_le, Option, None, Some, if◌then◌else◌, codes}
+use Rattle.std.specs.Prelude.{ℕ, List, [], ◌++◌, Bool, true, false, int_le, Option, None, Some, if◌then◌else◌, codes}
 use Rattle.std.specs.Arc.{arc_str_bytes}
 use Rattle.std.specs.List.{slice_get}
 use Rattle.std.specs.Fmt.{decimal}
@@ -23,10 +23,17 @@ use Rattle.desk_checking.specs.declared.undecided.Undecided.{Undecided}
 
 -- ---- the line of a table
 
+abbrev pub known_text : Bool → List ℕ
+known_text false = []
+known_text true = codes ",\"comes\":true"
+
+abbrev pub place_text : List ℕ → Bool → List ℕ
+place_text p are_known = (codes "{\"table\":" ++ quoted p) ++ known_text are_known
+
 -- up to the answers
-abbrev pub head_text : List ℕ → (complete asked words : Option Bool) → List ℕ
-head_text p complete asked words =
-    ((((((codes "{\"table\":" ++ quoted p) ++ codes ",\"complete\":") ++ compact_text (answer_told complete)) ++ codes ",\"asked\":") ++ compact_text (answer_told asked)) ++ codes ",\"words\":")
+abbrev pub head_text : List ℕ → Bool → (complete asked words : Option Bool) → List ℕ
+head_text p are_known complete asked words =
+    (((((place_text p are_known ++ codes ",\"complete\":") ++ compact_text (answer_told complete)) ++ codes ",\"asked\":") ++ compact_text (answer_told asked)) ++ codes ",\"words\":")
     ++ compact_text (answer_told words)
 
 abbrev pub unique_text : Option Overlaps → List ℕ

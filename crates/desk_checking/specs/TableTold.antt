@@ -10,6 +10,8 @@ use Rattle.feel_value.specs.Datum.{Datum}
 use Rattle.feel_value.specs.Json.{json_of}
 use Rattle.dmn_analysis.specs.Cells.{words_within}
 use Rattle.dmn_analysis.specs.declared.asked.Asked.{Asked}
+use Rattle.dmn_analysis.specs.declared.asked.Numbers.{Numbers}
+use Rattle.dmn_analysis.specs.declared.asked.Numbers.TheVariants as numbers
 use Rattle.dmn_analysis.specs.declared.asked.Texts.{Texts}
 use Rattle.dmn_analysis.specs.declared.asked.Texts.TheVariants as texts
 use Rattle.dmn_analysis.specs.declared.cell.Cell.{Cell}
@@ -53,12 +55,18 @@ undecided_told u =
 abbrev pub behind_unique : ℕ → Undecided → Members
 behind_unique steps u = member (codes "steps") (number_told steps) (member (codes "undecided") (undecided_told u) no_members)
 
+-- whether it is known what comes to the table, where that is so
+abbrev pub known_told : Bool → Members → Members
+known_told false ms = ms
+known_told true ms = member (codes "comes") (boolean true) ms
+
 -- `{"table":P,"complete":A,"asked":A,"words":A,"unique":A,"steps":n,"undecided":{..}}`: whether the table is complete for every value, for
--- those of the kinds that are asked about, and for the words
+-- those of the kinds that are asked about, and for the words. With `"comes":true` behind the table's place all are for what comes to it.
 abbrev pub table_line : List ℕ → Answers → ℕ → Undecided → List ℕ
 table_line pointer a steps u =
-    line_of (member (codes "table") (string pointer) (member (codes "complete") (answer_told (is_complete a.every)) (member (codes "asked") (answer_told (is_complete (gaps_of_kinds a)))
-    (member (codes "words") (answer_told (is_complete (gaps_of_words a))) (unique_told a.overlaps (behind_unique steps u))))))
+    line_of (member (codes "table") (string pointer) (known_told a.are_known (member (codes "complete") (answer_told (is_complete a.every))
+    (member (codes "asked") (answer_told (is_complete (gaps_of_kinds a)))
+    (member (codes "words") (answer_told (is_complete (gaps_of_words a))) (unique_told a.overlaps (behind_unique steps u)))))))
 
 -- ---- values of columns
 
@@ -159,6 +167,10 @@ abbrev pub is_other : Others → Bool
 is_other others.None = false
 is_other o = true
 
+abbrev pub asks_numbers : Numbers → Bool
+asks_numbers numbers.None = false
+asks_numbers ns = true
+
 abbrev pub asks_texts : Texts → Bool
 asks_texts texts.None = false
 asks_texts t = true
@@ -166,7 +178,7 @@ asks_texts t = true
 -- whether a cell has values of other kinds than those that are asked about
 abbrev pub has_others : Cell → Asked → Bool
 has_others c a =
-    (((c.null && not a.null) || ((c.yes || c.no) && not a.truths)) || (int_le c.low c.high && not a.numbers))
+    (((c.null && not a.null) || ((c.yes || c.no) && not a.truths)) || (int_le c.low c.high && not (asks_numbers a.numbers)))
     || (((nat_lt c.from c.to || is_other c.others) && not (asks_texts a.texts)) || (c.parted && not a.parted))
 
 abbrev pub have_others : List Cell → List Asked → Bool
@@ -174,7 +186,7 @@ have_others [] kinds = false
 have_others (c ∷ cs) [] = false
 have_others (c ∷ cs) (a ∷ kinds) = has_others c a || have_others cs kinds
 
--- the gaps among every value that don't lie among the kinds that are asked about
+-- the gaps that were found first and don't lie among the kinds that are asked about
 abbrev pub other_gaps : Answers → List Gap
 other_gaps a = filter (λ (g : Gap). have_others g.cells.items a.kinds.items) a.every.found.items
 

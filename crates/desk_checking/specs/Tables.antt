@@ -34,10 +34,14 @@ abbrev mutual
   entry_tables at i no_entries = []
   entry_tables at i (entry n b es) = tables_in (behind (behind at (step.Index i)) (step.Key key.Expr)) b ++ entry_tables at (i + 1) es
 
+-- the steps to the logic of the decision of this index
+abbrev pub decision_place : ℕ → List Step
+decision_place i = step.Key key.Decisions ∷ step.Index i ∷ step.Key key.Expr ∷ []
+
 -- of the logic of decisions from this index on
 abbrev pub logic_tables : ℕ → List (Boxed Expr Table) → List Placed
 logic_tables i [] = []
-logic_tables i (b ∷ bs) = tables_in (step.Key key.Decisions ∷ step.Index i ∷ step.Key key.Expr ∷ []) b ++ logic_tables (i + 1) bs
+logic_tables i (b ∷ bs) = tables_in (decision_place i) b ++ logic_tables (i + 1) bs
 
 abbrev pub logics_of : List (Decision Expr Table) → List (Boxed Expr Table)
 logics_of ds = map (λ d. d.logic) ds

@@ -1,6 +1,5 @@
 -- Internal, cited by no public contract: the tables that the code has.
-use Rattle.std.specs.Prelude.{◌≡◌, ℕ, List, [], ◌++◌, length, map}
-use Rattle.std.specs.List.{flat_map, list_any}
+use Rattle.std.specs.Prelude.{List, map}
 use Rattle.desk_checking.specs.Tables.{Placed}
 use Rattle.desk_checking.specs.declared.walk.PlacedTable.{PlacedTable}
 

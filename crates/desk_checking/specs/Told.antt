@@ -1,12 +1,12 @@
 -- The lines that `check` writes of a model.
-use Rattle.std.specs.Prelude.{◌≡◌, ◌-◌, ℕ, zero, suc, decimal, List, [], ◌∷◌, ◌++◌, length, map, take, Bool, true, false, Option, Some, None, codes}
+use Rattle.std.specs.Prelude.{◌-◌, ℕ, zero, suc, List, [], ◌∷◌, ◌++◌, length, map, take, Bool, true, false, Option, Some, None, codes}
 use Rattle.serde_json.specs.Data.{Data, boolean, number, unsigned, string, array, object, Items, no_items, item, Members, no_members, member}
 use Rattle.serde_json.specs.Written.{compact_text}
 use Rattle.feel_value.specs.Found.{◌>>=◌}
 use Rattle.desk_wire.specs.Words.{fault_word, word_text}
 use Rattle.desk_wire.specs.declared.word.Word.{Word}
 use Rattle.desk_wire.specs.declared.word.Word.TheVariants as word
-use Rattle.dmn_form.specs.Model.{Boxed, expression, table, list, context, context_with, Name, Service}
+use Rattle.dmn_form.specs.Model.{expression, table, list, context, context_with, Name, Service}
 use Rattle.dmn_form.specs.Draft.{Draft, Logic, Written, draft_of}
 use Rattle.dmn_plan.specs.declared.fault.ModelFault.{ModelFault}
 use Rattle.dmn_plan.specs.declared.fault.ModelFault.TheVariants as fault

@@ -1,19 +1,20 @@
 //! What is found of a decision table: the answers of `dmn_analysis`, and what of them is told.
-ghost use Rattle.std.specs.Prelude.{◌≡◌, [], None, Some, true, IfOk, IfSome, OnOk, map, not, ◌||◌, nat_lt, unwrap_or};
+ghost use Rattle.std.specs.Prelude.{◌≡◌, [], None, Some, true, IfOk, IfSome, OnOk, map, not, ◌||◌, nat_lt, option_map, unwrap_or};
 ghost use Rattle.std.specs.List.{All};
 ghost use Rattle.std.specs.Option.{is_some};
 ghost use Rattle.dmn_table.specs.Parts.{rule_view};
 ghost use Rattle.dmn_analysis.specs.Claims.{IsMaskedAmong, TellsGaps, TellsOverlaps};
-ghost use Rattle.desk_checking.specs.Answering.{AreAgainst, AreFaults, IsFound, IsJudged, TellsWords, counts_overlaps, gaps_of_kinds, gaps_of_words, has_order, idle_fail, is_complete, is_empty, is_faulty, is_refused, is_yes, lacks_rules, masks_fail, none_of, outputs_fail, overlaps_fail};
+ghost use Rattle.desk_checking.specs.Answering.{AreAgainst, AreFaults, AskUtf8, IsFound, IsJudged, TellsWords, counts_overlaps, gaps_of_kinds, gaps_of_words, has_order, idle_fail, is_complete, is_empty, is_faulty, is_refused, is_yes, lacks_rules, masks_fail, none_of, outputs_fail, overlaps_fail};
 ghost use Rattle.desk_checking.specs.Deciding.{EachCanDecide};
 ghost use Rattle.desk_checking.specs.Judged.{with_open, with_place};
 ghost use Rattle.desk_checking.specs.Outputs.{HitsGiveSame};
 
 use crate::deciding::find_idle;
 use crate::groups::groups_of;
+use crate::narrowed::{has_every, narrowed};
 use crate::same_outputs::outputs_differ;
 use dmn_analysis::{
-    Asked, Gaps, Masks, Overlap, Overlaps, Texts, every_value, find_gaps, find_masked,
+    Asked, Gaps, Masks, Numbers, Overlap, Overlaps, Texts, every_value, find_gaps, find_masked,
     find_overlaps, hit_in_one_group, kinds_asked, never_met,
 };
 use dmn_table::{HitPolicy, Rule, Table, has_no_default};
@@ -40,10 +41,12 @@ const SMALL_STEPS: u64 = 20_000_000;
 /// What is found of a table.
 #[derive(Drop)]
 pub struct Answers {
-    /// The gaps among every value.
+    /// The gaps among every value, or among what comes to the table, where that is known.
     pub every: Gaps,
-    /// Of each column the kinds of values that are asked in it.
+    /// Of each column the kinds of values that are asked in it; or the values that come there, where these are known and not all.
     pub kinds: Vec<Asked>,
+    /// Whether it is known what comes to the table.
+    pub are_known: bool,
     /// The gaps among these; none where those of every value say it: there is no gap, or the kinds are all.
     pub of_kinds: Option<Gaps>,
     /// The gaps among the words that are asked; none where those of the kinds say it: there is no gap, or the words are all texts.
@@ -111,8 +114,11 @@ fn most_of(columns: usize, most: usize, cells: usize) -> usize {
 /// Whether something is left out of the values of some column.
 fn leave_out(asked: &[Asked]) -> bool {
     for column in asked {
-        let has_all = column.null && column.truths && column.numbers && column.parted;
-        if !has_all || !matches!(column.texts, Texts::Utf8 | Texts::All) {
+        let has_all = column.null && column.truths && column.parted;
+        if !has_all || !matches!(column.numbers, Numbers::All) {
+            return true;
+        }
+        if !matches!(column.texts, Texts::Utf8 | Texts::All) {
             return true;
         }
     }
@@ -157,12 +163,54 @@ fn gaps_among_words(
     gaps_of_kinds: &Gaps,
     most: usize,
 ) -> Result<Option<Gaps>, AllocError>
-    ensures { IfOk result (λ found. IfSome found (TellsWords table.now)) }
+    ensures { IfOk result (λ found. IfSome found (TellsWords table.now None)) }
 {
     if is_complete(gaps_of_kinds) == Some(true) {
         return Ok(None);
     }
     let words = kinds_asked(alloc, table, true)?;
+    if !have_words(&words) {
+        return Ok(None);
+    }
+    let gaps = find_gaps(alloc, table, &words, most, STEPS)?;
+    Ok(Some(gaps))
+}
+
+/// The gaps among the kinds that are asked, where every value comes to some column and it isn't known that there are none.
+fn gaps_among_known_kinds(
+    alloc: Global,
+    table: &Table,
+    every: &Gaps,
+    comes: &[Asked],
+    kinds: &[Asked],
+    most: usize,
+) -> Result<Option<Gaps>, AllocError>
+    ensures { IfOk result (λ found. IfSome found (TellsGaps table.now kinds.now)) }
+{
+    if !has_every(comes) {
+        return Ok(None);
+    }
+    let gaps = gaps_among_kinds(alloc, table, every, kinds, most)?;
+    Ok(gaps)
+}
+
+/// The gaps among the words that are asked, where every value comes to some column, and those of the kinds have some or that isn't known.
+fn gaps_among_known_words(
+    alloc: Global,
+    table: &Table,
+    comes: &[Asked],
+    gaps_of_kinds: &Gaps,
+    most: usize,
+) -> Result<Option<Gaps>, AllocError>
+    ensures { IfOk result (λ found. IfSome found (TellsWords table.now (Some comes.now))) }
+{
+    if is_complete(gaps_of_kinds) == Some(true) {
+        return Ok(None);
+    }
+    if !has_every(comes) {
+        return Ok(None);
+    }
+    let words = narrowed(alloc, table, comes, true)?;
     if !have_words(&words) {
         return Ok(None);
     }
@@ -433,25 +481,47 @@ fn is_yes(answer: Option<bool>) -> bool
 }
 
 impl Answers {
-    /// What is found of a table. Gaps are looked for among every value, then among the kinds and the words that are asked, as far as
-    /// the wider search left that open.
-    pub(crate) fn of(alloc: Global, table: &Table) -> Result<Answers, AllocError>
-        ensures { IfOk result (IsFound table.now) }
+    /// What is found of a table, to which these values come, where that is known.
+    pub(crate) fn of(
+        alloc: Global,
+        table: &Table,
+        comes: Option<Vec<Asked>>,
+    ) -> Result<Answers, AllocError>
+        ensures { IfOk result (IsFound table.now (option_map (λ v. v.items) comes)) }
+    {
+        let all = every_value(alloc, table)?;
+        match comes {
+            Some(comes) => {
+                let answers = Answers::among_known(alloc, table, &all, comes)?;
+                Ok(answers)
+            }
+            None => {
+                let answers = Answers::among_every(alloc, table, &all)?;
+                Ok(answers)
+            }
+        }
+    }
+
+    /// What is found of a table of which it isn't known what comes to it. Gaps are looked for among every value, then among the kinds and
+    /// the words that are asked, as far as the wider search left that open.
+    fn among_every(alloc: Global, table: &Table, all: &[Asked]) -> Result<Answers, AllocError>
+        requires { AskUtf8 all.now }
+        ensures { IfOk result (IsFound table.now None) }
     {
         let columns = table.inputs().len();
         let most = most_of(columns, MOST_FINDINGS, MOST_CELLS);
-        let all = every_value(alloc, table)?;
-        let every = find_gaps(alloc, table, &all, most, STEPS)?;
+        let every = find_gaps(alloc, table, all, most, STEPS)?;
         let kinds = kinds_asked(alloc, table, false)?;
-        let overlaps = overlaps_of(alloc, table, &all)?;
+        let overlaps = overlaps_of(alloc, table, all)?;
         let faults = faults_of(alloc, table, &overlaps)?;
-        let never = never_met(alloc, table, &all)?;
-        let masks = masks_of(alloc, table, &all)?;
+        let never = never_met(alloc, table, all)?;
+        let masks = masks_of(alloc, table, all)?;
         let of_kinds = gaps_among_kinds(alloc, table, &every, &kinds, most)?;
         let of_words = gaps_among_words(alloc, table, narrower(&every, &of_kinds), most)?;
         let mut answers = Answers {
             every,
             kinds,
+            are_known: false,
             of_kinds,
             of_words,
             overlaps,
@@ -461,7 +531,49 @@ impl Answers {
             same: None,
             idle: None,
         };
-        let same = give_same(alloc, table, &all, &answers)?;
+        let same = give_same(alloc, table, all, &answers)?;
+        answers.same = same;
+        let idle = idle_of(alloc, table, &answers)?;
+        answers.idle = idle;
+        Ok(answers)
+    }
+
+    /// What is found of a table to which these values come: gaps and overlaps among them, and the rest among every value. Gaps are
+    /// looked for among the kinds and the words too where every value comes to a column.
+    fn among_known(
+        alloc: Global,
+        table: &Table,
+        all: &[Asked],
+        comes: Vec<Asked>,
+    ) -> Result<Answers, AllocError>
+        requires { AskUtf8 all.now }
+        ensures { IfOk result (IsFound table.now (Some comes.items)) }
+    {
+        let columns = table.inputs().len();
+        let most = most_of(columns, MOST_FINDINGS, MOST_CELLS);
+        let every = find_gaps(alloc, table, &comes, most, STEPS)?;
+        let overlaps = overlaps_of(alloc, table, &comes)?;
+        let faults = faults_of(alloc, table, &overlaps)?;
+        let never = never_met(alloc, table, all)?;
+        let masks = masks_of(alloc, table, all)?;
+        let kinds = narrowed(alloc, table, &comes, false)?;
+        let of_kinds = gaps_among_known_kinds(alloc, table, &every, &comes, &kinds, most)?;
+        let gaps = narrower(&every, &of_kinds);
+        let of_words = gaps_among_known_words(alloc, table, &comes, gaps, most)?;
+        let mut answers = Answers {
+            every,
+            kinds,
+            are_known: true,
+            of_kinds,
+            of_words,
+            overlaps,
+            faults,
+            never,
+            masks,
+            same: None,
+            idle: None,
+        };
+        let same = give_same(alloc, table, &comes, &answers)?;
         answers.same = same;
         let idle = idle_of(alloc, table, &answers)?;
         answers.idle = idle;

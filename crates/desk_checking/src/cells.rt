@@ -6,10 +6,10 @@ ghost use Rattle.serde_json.specs.Find.{of_integer};
 ghost use Rattle.serde_json.specs.Written.{compact_text};
 ghost use Rattle.dmn_analysis.specs.Cells.{words_within};
 ghost use Rattle.desk_checking.specs.TablePieces.{bound_text, flags_text, numbers_text, others_text};
-ghost use Rattle.desk_checking.specs.TableTold.{asks_texts, cell_told, cells_told, has_others, have_others, is_other, texts_of, word_before, words_told};
+ghost use Rattle.desk_checking.specs.TableTold.{asks_numbers, asks_texts, cell_told, cells_told, has_others, have_others, is_other, texts_of, word_before, words_told};
 
 use crate::parts::{add_bool, add_comma};
-use dmn_analysis::{Asked, Cell, Others, Texts, Words};
+use dmn_analysis::{Asked, Cell, Numbers, Others, Texts, Words};
 use json_writer::add_quoted;
 use std::alloc::{AllocError, Global};
 use std::sync::ArcStr;
@@ -21,6 +21,16 @@ fn is_other(others: Others) -> bool
         Others::None => false,
         Others::All => true,
         Others::Between(_, _) => true,
+    }
+}
+
+fn asks_numbers(numbers: Numbers) -> bool
+    ensures { result ≡ asks_numbers numbers }
+{
+    match numbers {
+        Numbers::None => false,
+        Numbers::Between(_, _) => true,
+        Numbers::All => true,
     }
 }
 
@@ -45,7 +55,7 @@ fn has_others(cell: Cell, asked: &Asked) -> bool
     if (cell.yes || cell.no) && !asked.truths {
         return true;
     }
-    if cell.low <= cell.high && !asked.numbers {
+    if cell.low <= cell.high && !asks_numbers(asked.numbers) {
         return true;
     }
     let has_texts = cell.from < cell.to || is_other(cell.others);

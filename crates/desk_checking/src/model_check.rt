@@ -1,11 +1,12 @@
 //! Checks one model.
-ghost use Rattle.std.specs.Prelude.{◌≡◌, ◌≢◌, ◌&&◌, ◌++◌, ◌<◌, ◌≤◌, ◌-◌, ◌^◌, ℕ, List, [], length, Option, None, Some, Ok, Err, OnOk, IfOk, IfErr, IsTrue, is_ok, option_map, true};
+ghost use Rattle.std.specs.Prelude.{◌≡◌, ◌≢◌, ◌&&◌, ◌++◌, ◌<◌, ◌≤◌, ◌-◌, ◌^◌, ℕ, List, [], length, map, Option, None, Some, Ok, Err, OnOk, IfOk, IfErr, IsTrue, is_ok, option_map, true};
 ghost use Rattle.std.specs.List.{flat_map};
 ghost use Rattle.serde_json.specs.Data.{Data};
 ghost use Rattle.serde_json.specs.View.{view};
 ghost use Rattle.serde_json.specs.Written.{compact_text};
 ghost use Rattle.desk_lines.specs.Lines.{ended, lines_of, max_line};
 ghost use Rattle.desk_lines.specs.Told.{WritesAll};
+ghost use Rattle.desk_ranges.specs.Gives.{written_name};
 ghost use Rattle.dmn_form.specs.Draft.{Draft, draft_of};
 ghost use Rattle.dmn_form.specs.ModelView.{model_view};
 ghost use Rattle.feel_text.specs.Expr.{Expr as ExprSpec};
@@ -19,12 +20,13 @@ ghost use Rattle.desk_checking.specs.FirstFault.{IsFirstFault, IsTakenBy, fault_
 ghost use Rattle.desk_checking.specs.Output.{TellsModel, TellsText};
 ghost use Rattle.desk_checking.specs.Told.{domain_lines, fault_line, faulty_lines, long_line};
 ghost use Rattle.desk_checking.specs.Tables.{tables_of};
-ghost use Rattle.desk_checking.specs.TablesTold.{TellsIf};
+ghost use Rattle.desk_checking.specs.TablesTold.{IsWithin, TellsIf};
 ghost use Rattle.desk_checking.specs.Verdicts.{IsDueTo, failure_of, failures_in};
 ghost use Rattle.desk_checking.specs.declared.options.CheckOptions.{CheckOptions as OptionsSpec};
 ghost use Rattle.desk_checking.specs.declared.findings.CheckFault.TheVariants as found;
 
 use crate::cut::model_and_requests;
+use crate::decision_inputs::DecisionInputs;
 use crate::domain_lines::add_domains;
 use crate::domains::declared_beside;
 use crate::fault_lines::add_fault;
@@ -40,7 +42,7 @@ use crate::subject::subject;
 use crate::tables::{ToldTables, told_tables};
 use desk_lines::{FrontFault, Sink, Source, write_all};
 use desk_requests::RefusedLine;
-use dmn_form::{WrittenModel, read_form};
+use dmn_form::{WrittenModel, WrittenService, read_form};
 use dmn_plan::{ModelFault, Plan};
 use dmn_told::Domain;
 use serde_json::Value;
@@ -108,15 +110,22 @@ fn text_of_domains(alloc: Global, refused: &[Option<&str>]) -> Result<Vec<u8>, A
     Ok(text)
 }
 
-/// What is told of the tables of the model with this plan, where the options say so.
-fn tables_if(alloc: Global, options: CheckOptions, plan: &Plan) -> Result<ToldTables, AllocError>
-    ensures { IfOk result (λ told. (m : ModelSpec ExprSpec TableSpec) → read_text plan.now ≡ Ok m → TellsIf options.tables options.strict (tables_of m) told.text.items (options.tables && (options.strict && told.are_refused))) }
+/// What is told of the tables of the model with this plan, which has these services, within the domains, where the options say so.
+fn tables_if(
+    alloc: Global,
+    options: CheckOptions,
+    plan: &Plan,
+    services: &[WrittenService],
+    domains: &[Domain],
+) -> Result<ToldTables, AllocError>
+    ensures { IfOk result (λ told. (m : ModelSpec ExprSpec TableSpec) → read_text plan.now ≡ Ok m → TellsIf options.tables options.strict (IsWithin m domains.now (map written_name services.now)) (tables_of m) told.text.items (options.tables && (options.strict && told.are_refused))) }
 {
     if !options.tables {
         return Ok(ToldTables::none(alloc));
     }
     let logics = plan.logics(alloc)?;
-    let told = told_tables(alloc, &logics)?;
+    let inputs = DecisionInputs::of(alloc, plan, services, domains)?;
+    let told = told_tables(alloc, &inputs, &logics)?;
     Ok(told)
 }
 
@@ -136,7 +145,7 @@ fn lawful_verdict(
     add_model(alloc, model, &mut text)?;
     let gives = gives_if(alloc, options, &plan, &model.services, domains)?;
     text.extend_from_slice(&gives.text)?;
-    let tables = tables_if(alloc, options, &plan)?;
+    let tables = tables_if(alloc, options, &plan, &model.services, domains)?;
     text.extend_from_slice(&tables.text)?;
     let refusals = refused_among(alloc, plan, requests)?;
     add_refusals(alloc, &refusals, &mut text)?;

@@ -5,7 +5,7 @@ ghost use Rattle.serde_json.specs.Data.{array};
 ghost use Rattle.serde_json.specs.Written.{compact_text};
 ghost use Rattle.desk_lines.specs.Lines.{ended};
 ghost use Rattle.desk_checking.specs.Answering.{gaps_of_kinds, gaps_of_words, is_complete, is_unique};
-ghost use Rattle.desk_checking.specs.TablePieces.{begin_text, head_text, tail_text, unique_text, witness_text};
+ghost use Rattle.desk_checking.specs.TablePieces.{begin_text, head_text, known_text, place_text, tail_text, unique_text, witness_text};
 ghost use Rattle.desk_checking.specs.TableTold.{answer_told, gap_line, gap_lines, line_if, mask_line, mask_lines, more_findings, more_others, never_line, never_lines, other_gaps, other_lines, overlap_line, overlap_lines, table_line, table_lines, undecided_told, values_told};
 
 use crate::answers::{Answers, MOST_FINDINGS, has_any, none_of};
@@ -65,18 +65,44 @@ fn add_undecided(undecided: &Undecided, text: &mut Vec<u8>) -> Result<(), AllocE
     Ok(())
 }
 
+/// Adds that it is known what comes to a table, where that is so.
+fn add_known(are_known: bool, text: &mut Vec<u8>) -> Result<(), AllocError>
+    ensures { OnOk result (text.new.items ≡ text.old.items ++ known_text are_known) }
+{
+    if !are_known {
+        return Ok(());
+    }
+    text.extend_from_slice(b",\"comes\":true")?;
+    Ok(())
+}
+
+/// Begins the line of a table with its place, and whether it is known what comes to it.
+#[tactic(auto, using(crate::proofs::TableLines::three_pieces))]
+fn add_place(
+    alloc: Global,
+    pointer: &str,
+    are_known: bool,
+    text: &mut Vec<u8>,
+) -> Result<(), AllocError>
+    ensures { OnOk result (text.new.items ≡ text.old.items ++ place_text pointer.now are_known) }
+{
+    text.extend_from_slice(b"{\"table\":")?;
+    add_quoted(alloc, pointer, text)?;
+    add_known(are_known, text)?;
+    Ok(())
+}
+
 /// Begins the line of a table: its place, and whether it is complete.
-#[tactic(auto, using(crate::proofs::TableLines::eight))]
+#[tactic(auto, using(crate::proofs::TableLines::seven_pieces))]
 fn add_head(
     alloc: Global,
     pointer: &str,
     answers: &Answers,
     text: &mut Vec<u8>,
 ) -> Result<(), AllocError>
-    ensures { OnOk result (text.new.items ≡ text.old.items ++ head_text pointer.now (is_complete answers.now.every) (is_complete (gaps_of_kinds answers.now)) (is_complete (gaps_of_words answers.now))) }
+    ensures { OnOk result (text.new.items ≡ text.old.items ++ head_text pointer.now answers.now.are_known (is_complete answers.now.every) (is_complete (gaps_of_kinds answers.now)) (is_complete (gaps_of_words answers.now))) }
 {
-    text.extend_from_slice(b"{\"table\":")?;
-    add_quoted(alloc, pointer, text)?;
+    add_place(alloc, pointer, answers.are_known, text)?;
     text.extend_from_slice(b",\"complete\":")?;
     add_answer(answers.complete(), text)?;
     text.extend_from_slice(b",\"asked\":")?;
@@ -312,7 +338,7 @@ fn add_gaps(alloc: Global, gaps: &Gaps, text: &mut Vec<u8>) -> Result<(), AllocE
     Ok(())
 }
 
-/// The gaps among every value that don't lie among the kinds that are asked.
+/// The gaps that don't lie among the kinds that are asked.
 fn other_gaps<'a>(alloc: Global, answers: &'a Answers) -> Result<Vec<&'a Gap>, AllocError>
     ensures { IfOk result (λ gaps. map (λ g. g.now) gaps.items ≡ other_gaps answers.now) }
 {

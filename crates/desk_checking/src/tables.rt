@@ -1,17 +1,19 @@
 //! The decision tables of a model, one after another, with what is found of each.
-ghost use Rattle.std.specs.Prelude.{◌≡◌, ◌<◌, ◌++◌, [], IfOk, OnOk, false, map};
+ghost use Rattle.std.specs.Prelude.{◌≡◌, ◌<◌, ◌++◌, [], IfOk, OnOk, false, length, map};
 ghost use Rattle.std.specs.List.{flat_map};
 ghost use Rattle.desk_lines.specs.Lines.{ended};
 ghost use Rattle.dmn_logic.specs.LogicView.{logic_view};
+ghost use Rattle.desk_checking.specs.ComesView.{IsFrom, number_view, number_views};
 ghost use Rattle.desk_checking.specs.Looking.{IsTold, IsTurn, untold_lines};
 ghost use Rattle.desk_checking.specs.Tables.{logic_tables};
 ghost use Rattle.desk_checking.specs.TablesTold.{TellsTables};
 ghost use Rattle.desk_checking.specs.TablesView.{placed_view, placed_views};
 
 use crate::answers::Answers;
+use crate::decision_inputs::{DecisionInputs, asked_of_table};
 use crate::table_lines::add_table;
 use crate::undecided::Undecided;
-use crate::walk::{PlacedTable, tables_of};
+use crate::walk::{PlacedTable, TableNumber, tables_of};
 use dmn_logic::Logic;
 use json_writer::add_number;
 use std::alloc::{AllocError, Global};
@@ -44,11 +46,18 @@ fn add_untold(untold: usize, text: &mut Vec<u8>) -> Result<(), AllocError>
 
 impl Telling {
     /// Looks at a table.
-    fn look_at(&mut self, alloc: Global, placed: &PlacedTable) -> Result<(), AllocError>
+    fn look_at(
+        &mut self,
+        alloc: Global,
+        inputs: &Option<DecisionInputs>,
+        placed: &PlacedTable,
+        which: TableNumber,
+    ) -> Result<(), AllocError>
         requires { self.old.untold < 18446744073709551615 }
-        ensures { OnOk result (IsTurn (placed_view placed.now) self.old self.new) }
+        ensures { OnOk result (IsTurn inputs.now (placed_view placed.now) (number_view which) self.old self.new) }
     {
-        let answers = Answers::of(alloc, placed.table)?;
+        let comes = asked_of_table(alloc, inputs, placed.table, which.decision, which.number)?;
+        let answers = Answers::of(alloc, placed.table, comes)?;
         let undecided = Undecided::of(alloc, &answers)?;
         let is_refused = answers.are_refused(placed.table);
         self.is_refused |= is_refused;
@@ -102,9 +111,15 @@ impl ToldTables {
     }
 }
 
-/// What is told of these tables.
-fn told_of(alloc: Global, tables: &[PlacedTable]) -> Result<Telling, AllocError>
-    ensures { IfOk result (IsTold (placed_views tables.now)) }
+/// What is told of these tables, of which each is this one.
+fn told_of(
+    alloc: Global,
+    inputs: &Option<DecisionInputs>,
+    tables: &[PlacedTable],
+    numbers: &[TableNumber],
+) -> Result<Telling, AllocError>
+    requires { length numbers.now ≡ length tables.now }
+    ensures { IfOk result (IsTold inputs.now (placed_views tables.now) (number_views numbers.now)) }
 {
     let mut telling = Telling {
         text: Vec::new(alloc),
@@ -112,17 +127,21 @@ fn told_of(alloc: Global, tables: &[PlacedTable]) -> Result<Telling, AllocError>
         is_refused: false,
     };
     for place in 0..tables.len() {
-        telling.look_at(alloc, &tables[place])?;
+        telling.look_at(alloc, inputs, &tables[place], numbers[place])?;
     }
     Ok(telling)
 }
 
-/// What is found of the decision tables of decisions that have this logic, in their order.
-pub(crate) fn told_tables(alloc: Global, logics: &[&Logic]) -> Result<ToldTables, AllocError>
-    ensures { IfOk result (λ told. TellsTables (logic_tables 0 (map (λ l. logic_view l.now) logics.now)) told.text.items told.are_refused) }
+/// What is found of the decision tables of decisions that have this logic, in their order, where this comes to them.
+pub(crate) fn told_tables(
+    alloc: Global,
+    inputs: &Option<DecisionInputs>,
+    logics: &[&Logic],
+) -> Result<ToldTables, AllocError>
+    ensures { IfOk result (λ told. TellsTables (IsFrom inputs.now (map (λ l. logic_view l.now) logics.now)) (logic_tables 0 (map (λ l. logic_view l.now) logics.now)) told.text.items told.are_refused) }
 {
     let tables = tables_of(alloc, logics)?;
-    let mut telling = told_of(alloc, &tables)?;
+    let mut telling = told_of(alloc, inputs, &tables.placed, &tables.numbers)?;
     telling.tell_untold()?;
     Ok(ToldTables {
         text: telling.text,

@@ -5,6 +5,7 @@ ghost use Rattle.dmn_check.specs.declared.place.Key.TheVariants.{Context as Cont
 ghost use Rattle.dmn_check.specs.declared.place.Step.TheVariants.{Key as KeyStep};
 ghost use Rattle.desk_checking.specs.Tables.{behind, entry_tables, logic_tables, member_tables, tables_in};
 ghost use Rattle.desk_checking.specs.TablesView.{placed_view, placed_views};
+ghost use Rattle.desk_checking.specs.ComesView.{logic_numbers, number_views, numbers_from};
 
 use dmn_check::{Key, Place, Step};
 use dmn_logic::Logic;
@@ -17,6 +18,21 @@ use std::sync::ArcStr;
 pub(crate) struct PlacedTable<'a> {
     pub(crate) place: Place,
     pub(crate) table: &'a Table,
+}
+
+/// Which table of which decision, both counted from 0.
+#[derive(Clone, Copy)]
+pub(crate) struct TableNumber {
+    pub(crate) decision: usize,
+    pub(crate) number: usize,
+}
+
+/// The tables of decisions, in their order.
+#[derive(Drop)]
+pub(crate) struct Tables<'a> {
+    pub(crate) placed: Vec<PlacedTable<'a>>,
+    /// Of each which one it is.
+    pub(crate) numbers: Vec<TableNumber>,
 }
 
 /// The steps to a place, and one behind it.
@@ -137,17 +153,36 @@ fn place_of(alloc: Global, index: usize) -> Result<Vec<Step>, AllocError>
     Ok(steps)
 }
 
+/// Adds the numbers of so many tables of a decision.
+fn add_numbers(
+    decision: usize,
+    count: usize,
+    numbers: &mut Vec<TableNumber>,
+) -> Result<(), AllocError>
+    ensures { OnOk result (number_views numbers.new.items ≡ number_views numbers.old.items ++ numbers_from decision 0 count) }
+{
+    for number in 0..count {
+        numbers.push(TableNumber { decision, number })?;
+    }
+    Ok(())
+}
+
 /// The tables of decisions that have this logic, in their order.
-pub(crate) fn tables_of<'a>(
-    alloc: Global,
-    logics: &[&'a Logic],
-) -> Result<Vec<PlacedTable<'a>>, AllocError>
-    ensures { IfOk result (λ tables. placed_views tables.items ≡ logic_tables 0 (map (λ l. logic_view l.now) logics.now)) }
+pub(crate) fn tables_of<'a>(alloc: Global, logics: &[&'a Logic]) -> Result<Tables<'a>, AllocError>
+    ensures placed { IfOk result (λ tables. placed_views tables.placed.items ≡ logic_tables 0 (map (λ l. logic_view l.now) logics.now)) }
+    ensures numbers { IfOk result (λ tables. number_views tables.numbers.items ≡ logic_numbers 0 (map (λ l. logic_view l.now) logics.now)) }
 {
     let mut tables = Vec::new(alloc);
+    let mut numbers = Vec::new(alloc);
     for (index, logic) in logics.iter().enumerate() {
         let place = place_of(alloc, index)?;
+        let before = tables.len();
         add_tables(alloc, &place, *logic, &mut tables)?;
+        let added = tables.len().saturating_sub(before);
+        add_numbers(index, added, &mut numbers)?;
     }
-    Ok(tables)
+    Ok(Tables {
+        placed: tables,
+        numbers,
+    })
 }

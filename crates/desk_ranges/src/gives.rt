@@ -15,6 +15,9 @@ use std::alloc::{AllocError, Global};
 /// How many services are looked at. Each may need all decisions of a model.
 const MOST_SERVICES: usize = 100;
 
+/// How many steps the analysis of the tables takes at most: as many for each of the services.
+const STEPS: u64 = 1_000_000;
+
 /// What is told of services, one after another.
 #[derive(Drop)]
 pub struct Gives {
@@ -79,10 +82,11 @@ impl Gives {
         plan: &Plan,
         service: &str,
         domains: &[Domain],
+        steps: u64,
     ) -> Result<(), AllocError>
         ensures { OnOk result (IsMore plan.now domains.now service.now self.old self.new) }
     {
-        let Some(told) = told_of_service(alloc, plan, service, domains)? else {
+        let Some(told) = told_of_service(alloc, plan, service, domains, steps)? else {
             return Ok(());
         };
         self.can_fail = either(self.can_fail, fails_with(told.result));
@@ -112,6 +116,14 @@ fn looked_at(services: &[WrittenService]) -> &[WrittenService]
     first
 }
 
+/// The steps for each of so many services.
+fn steps_for_each(services: usize) -> u64 {
+    if services == 0 {
+        return STEPS;
+    }
+    STEPS / services as u64
+}
+
 /// What each of these services and its decisions can give.
 fn gives_of_each(
     alloc: Global,
@@ -125,15 +137,18 @@ fn gives_of_each(
         text: Vec::new(alloc),
         can_fail: false,
     };
+    let steps = steps_for_each(services.len());
     for place in 0..services.len() {
         let service = &services[place];
-        gives.look_at(alloc, plan, service.name.as_str(), domains)?;
+        gives.look_at(alloc, plan, service.name.as_str(), domains, steps)?;
     }
     Ok(gives)
 }
 
 /// What the first 100 of these services of a model and their decisions can give, where each value of a parameter meets the tests that
-/// are declared under the parameter's name; and how many others there are. The domains are in the order of their names.
+/// are declared under the parameter's name; and how many others there are. The domains are in the order of their names. The analysis of
+/// the tables takes at most 1,000,000 steps in all, as many for each service: a table that those don't suffice for is told as one of
+/// which no rule may hit, or several.
 pub fn gives_of_services(
     alloc: Global,
     plan: &Plan,

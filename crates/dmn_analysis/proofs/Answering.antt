@@ -1,5 +1,5 @@
 -- What a search has found, as it is told of a table.
-use Rattle.std.proofs.Common.{◌≡◌, ◌∙◌, sym, ap, subst, ℕ, ◌<◌, ◌⊎◌, inl, inr, List, [], ◌∷◌, ◌++◌, length, map, refl, true, false, IsTrue, Some, None, arith}
+use Rattle.std.proofs.Common.{◌≡◌, ◌∙◌, sym, ap, subst, ℕ, ◌<◌, ◌≤◌, ◌⊎◌, inl, inr, List, [], ◌∷◌, ◌++◌, length, map, refl, true, false, IsTrue, Some, None, arith}
 use Rattle.std.specs.List.{slice_get, All}
 use Rattle.std.proofs.lemmas.List.Elements.{All-weaker}
 use Rattle.std.proofs.lemmas.Option.{same_Some, slice_get_past, slice_get_within}
@@ -9,7 +9,7 @@ use Rattle.feel_text.specs.Meaning.{Bindings}
 use Rattle.dmn_table.specs.Hits.{does_hit}
 use Rattle.dmn_table.specs.Table.{Rule, Table}
 use Rattle.dmn_analysis.specs.Cells.{AllInOrder, AreIn}
-use Rattle.dmn_analysis.specs.Claims.{AreAsked, AreInputs, GoesBefore, HasHit, IsGapIn, IsInGap, IsMaskedAmong, KeepLimits, NeverHits, NeverTwo, TellsGap, TellsGaps}
+use Rattle.dmn_analysis.specs.Claims.{AlwaysHit, AreAsked, AreInputs, GoesBefore, HasHit, IsGapIn, IsInGap, IsMaskedAmong, KeepLimits, NeverHits, NeverTwo, TellsGap, TellsGaps}
 use Rattle.dmn_analysis.specs.Constant.{AreConstant, is_constant}
 use Rattle.dmn_analysis.specs.Joining.{AreCovered, AreMissed}
 use Rattle.dmn_analysis.specs.Searching.{CannotHit, IsAmong, IsBare, IsInSome, Knows, Scene, cells_of}
@@ -112,6 +112,14 @@ behind_from s search knows none unopened covered m values long lawful inside cho
         | inr p ↦ absurd (nowhere s.words values (subst (λ ps. IsInSome s.words (cells_of ps) values) none p))
       ]
     ]
+
+-- one of all rules hits, where none is chosen
+pub always_hit : (words : List Words) (rules : List Rule) (asked : List Asked) (cells : List Cell) (count chosen : ℕ) (first : List ℕ) → length cells ≡ count → AreWhole words asked cells → length rules ≤ chosen
+    → IsBehind words rules cells chosen first → AlwaysHit count rules asked
+always_hit words rules asked cells count chosen first long whole past behind m values inputs are_asked =
+    let hit = behind m values (inputs.one_each ∙ sym long) inputs.lawful (in_whole words asked cells values whole inputs.lawful are_asked)
+    (λ rule there. let none : None ≡ Some rule = sym (slice_get_past rules chosen past) ∙ there in cc) in
+    record { place = hit.number; rule = hit.rule; there = hit.there; hits = hit.hits }
 
 nobody : (rules : List Rule) (m : Bindings) (values : List Datum) → HasHitAmong rules [] m values → ⊥
 nobody rules m values h = let e : None ≡ Some h.number = h.among.there in cc

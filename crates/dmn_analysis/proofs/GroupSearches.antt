@@ -1,14 +1,16 @@
 -- Searches for rules of two groups that hit for the same values.
-use Rattle.std.proofs.Common.{◌≡◌, ◌∙◌, sym, ap, subst, ℕ, ◌<◌, ◌⊎◌, inl, inr, List, [], ◌∷◌, ◌++◌, length, None, Some}
+use Rattle.std.proofs.Common.{◌≡◌, ◌∙◌, sym, ap, subst, ℕ, ◌<◌, ◌⊎◌, inl, inr, List, [], ◌∷◌, ◌++◌, length, get_or, None, Some, arith}
 use Rattle.std.specs.List.{slice_get, All}
 use Rattle.std.proofs.lemmas.List.Elements.{All-nil, All-push}
-use Rattle.std.proofs.lemmas.Option.{slice_get_within}
+use Rattle.std.proofs.lemmas.Option.{same_Some, slice_get-get_or, slice_get_within}
 use Rattle.feel_value.specs.Datum.{Datum}
 use Rattle.dmn_table.specs.Table.{Table}
 use Rattle.dmn_analysis.specs.Cells.{AllInOrder, AreIn}
+use Rattle.dmn_analysis.specs.Claims.{IsUniqueAmong}
 use Rattle.dmn_analysis.specs.Cutting.{AreHalves}
 use Rattle.dmn_analysis.specs.Grouping.{AreOfOneGroup, HitInOneGroup, KnowsGroups, KnowsGroupsBut}
 use Rattle.dmn_analysis.specs.Searching.{AreLeft, IsAmong, IsInSome, IsPending, Scene, cells_of}
+use Rattle.dmn_analysis.specs.Sharing.{IsRising}
 use Rattle.dmn_analysis.specs.Telling.{IsVoid}
 use Rattle.dmn_analysis.specs.Whole.{AreWhole}
 use Rattle.dmn_analysis.specs.declared.asked.Asked.{Asked}
@@ -148,3 +150,13 @@ groups_known t words asked cells first groups long whole each knows m values inp
       | inl one ↦ one i j r q (each i (slice_get_within t.rules i r there)) (each j (slice_get_within t.rules j q other)) there other hits also
       | inr p ↦ absurd (nowhere words values p)
     ]
+
+-- where each rule has a group of its own, no two hit
+pub each_alone : (t : Table) (asked : List Asked) (groups : List ℕ) → length groups ≡ length t.rules → IsRising groups → HitInOneGroup t asked groups → IsUniqueAmong t asked
+each_alone t asked groups long rising one m values inputs are_asked i j r q less there other hits also =
+    let first : i < length groups = subst (λ n. i < n) (sym long) (slice_get_within t.rules i r there) in
+    let second : j < length groups = subst (λ n. j < n) (sym long) (slice_get_within t.rules j q other) in
+    let a = slice_get-get_or groups i 0 first in
+    let b = slice_get-get_or groups j 0 second in
+    let same = same_Some (get_or groups i 0) (get_or groups j 0) (sym a ∙ one m values inputs are_asked i j r q there other hits also ∙ b) in
+    omega (arith, same, rising i j (get_or groups i 0) (get_or groups j 0) less a b)

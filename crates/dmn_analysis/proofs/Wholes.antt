@@ -1,18 +1,23 @@
 -- The cells of all values that are asked about.
-use Rattle.std.proofs.Common.{◌≡◌, ◌∙◌, sym, ap, ap₂, refl, subst, inl, inr, ℕ, suc, ℤ, pos, List, [], ◌∷◌, ◌++◌, length, map, Bool, true, false, not, ◌&&◌, ◌||◌, if◌then◌else◌, Some, Vec, arith}
+use Rattle.std.proofs.Common.{◌≡◌, ◌∙◌, sym, ap, ap₂, refl, subst, inl, inr, ℕ, suc, ℤ, pos, List, [], ◌∷◌, ◌++◌, length, map, Bool, true, false, not, ◌&&◌, ◌||◌, Some, Vec, arith}
 use Rattle.std.specs.Arc.{arc_str_bytes}
 use Rattle.std.specs.Prelude.{bytes_eq, int_le, ◌-ℤ◌}
-use Rattle.std.specs.List.{list_any, slice_get}
+use Rattle.std.specs.List.{list_all, list_any, slice_get}
 use Rattle.std.specs.declared.alloc.Global.{Global}
 use Rattle.std.specs.declared.sync.ArcStr.{ArcStr}
 use Rattle.std.proofs.lemmas.Int.{ints}
 use Rattle.std.proofs.lemmas.List.{length-map, take_all}
 use Rattle.std.proofs.lemmas.Option.{same_Some, slice_get_within}
+use Rattle.feel_value.proofs.Booleans.{both_true}
 use Rattle.feel_value.specs.Datum.{null, boolean, number, text, list, context}
 use Rattle.feel_value.specs.Limits.{in_range, is_value}
-use Rattle.dmn_analysis.specs.Cells.{is_text_among, words_within}
-use Rattle.dmn_analysis.specs.Whole.{AreWhole, AreWholeTexts, HasWhole, IsWhole, whole_of}
+use Rattle.feel_text.proofs.Bindings.{same_text}
+use Rattle.dmn_analysis.specs.Cells.{is_one_of, is_text_among, words_within}
+use Rattle.dmn_analysis.specs.Asked.{is_asked_number}
+use Rattle.dmn_analysis.specs.Whole.{AreOthers, AreWhole, AreWholeTexts, HasWhole, IsWhole, highest, lowest, whole_of}
 use Rattle.dmn_analysis.specs.declared.asked.Asked.{Asked}
+use Rattle.dmn_analysis.specs.declared.asked.Numbers.{Numbers}
+use Rattle.dmn_analysis.specs.declared.asked.Numbers.TheVariants as numbers
 use Rattle.dmn_analysis.specs.declared.asked.Texts.TheVariants as texts
 use Rattle.dmn_analysis.specs.declared.cell.Cell.{Cell}
 use Rattle.dmn_analysis.specs.declared.cell.Others.{Others}
@@ -62,9 +67,29 @@ whole_utf8 ws s e =
     let other = lies_so ws 0 (length ws) s (record { utf8 = e; above = λ k w less there. absurd (omega (arith, less)); below = λ k w past there. absurd (omega (arith, past, slice_get_within ws k w there)) }) in
     ap₂ (λ us o. is_text_among us s || (o && not (is_text_among ws s))) (all_words ws) other ∙ either (is_text_among ws s)
 
-pub whole_these : (ws : List (ArcStr Global)) (ts : Vec (ArcStr Global) Global) → map arc_str_bytes ts.items ≡ map arc_str_bytes ws → AreWholeTexts ws (texts.These ts) (length ws) others.None
-whole_these ws ts same s e =
-    left_of (is_text_among (words_within ws 0 (length ws)) s) (false && not (is_text_among ws s)) (ap (λ us. is_text_among us s) (all_words ws) ∙ sym (among_same ts.items ws s same) ∙ e)
+pub same_others : (these ws : List (ArcStr Global)) → map arc_str_bytes these ≡ map arc_str_bytes ws → AreOthers these ws others.None
+same_others these ws same s e = left_of (is_text_among ws s) (false && not (is_text_among ws s)) (sym (among_same these ws s same) ∙ e)
+
+pub all_others : (these ws : List (ArcStr Global)) → AreOthers these ws others.All
+all_others these ws s e = either (is_text_among ws s)
+
+among_by : (a : Bool) (t : ArcStr Global) (these ws : List (ArcStr Global)) (s : List ℕ) → bytes_eq s (arc_str_bytes t) ≡ a → (a || is_text_among these s) ≡ true → is_text_among ws (arc_str_bytes t) ≡ true
+    → (is_text_among these s ≡ true → is_text_among ws s ≡ true) → is_text_among ws s ≡ true
+among_by true t these ws s same e here rest = subst (λ u. is_text_among ws u ≡ true) (sym (same_text s (arc_str_bytes t) same)) here
+among_by false t these ws s same e here rest = rest e
+
+among_words : (these ws : List (ArcStr Global)) (s : List ℕ) → list_all (λ t. is_text_among ws (arc_str_bytes t)) these ≡ true → is_text_among these s ≡ true → is_text_among ws s ≡ true
+among_words [] ws s all e = cc
+among_words (t ∷ these) ws s all e =
+    let parts = both_true (is_text_among ws (arc_str_bytes t)) (list_all (λ u. is_text_among ws (arc_str_bytes u)) these) all in
+    among_by (bytes_eq s (arc_str_bytes t)) t these ws s refl e parts.0 (among_words these ws s parts.1)
+
+-- each is a word
+pub word_others : (these ws : List (ArcStr Global)) → list_all (λ t. is_text_among ws (arc_str_bytes t)) these ≡ true → AreOthers these ws others.None
+word_others these ws all s e = left_of (is_text_among ws s) (false && not (is_text_among ws s)) (among_words these ws s all e)
+
+pub whole_these : (ws : List (ArcStr Global)) (ts : Vec (ArcStr Global) Global) (o : Others) → AreOthers ts.items ws o → AreWholeTexts ws (texts.These ts) (length ws) o
+whole_these ws ts o told s e = ap (λ us. is_text_among us s || (is_one_of ws o s && not (is_text_among ws s))) (all_words ws) ∙ told s e
 
 -- ---- all values
 
@@ -75,9 +100,10 @@ first_of false b e = cc
 pub number_in_range : (z : ℤ) → is_value (number z) ≡ true → in_range z ≡ true
 number_in_range z e = first_of (in_range z) _ (first_of _ _ e)
 
-number_in_whole : (z : ℤ) (b : Bool) → in_range z ≡ true → b ≡ true → (int_le (if b then (pos 0 -ℤ pos 9223372036854775807) else pos 1) z && int_le z (if b then pos 9223372036854775807 else pos 0)) ≡ true
-number_in_whole z true range e = grind (arith, ints, range)
-number_in_whole z false range e = cc
+number_in_whole : (z : ℤ) (asked : Numbers) → in_range z ≡ true → is_asked_number asked z ≡ true → (int_le (lowest asked) z && int_le z (highest asked)) ≡ true
+number_in_whole z numbers.All range e = grind (arith, ints, range)
+number_in_whole z (numbers.Between low high) range e = e
+number_in_whole z numbers.None range e = cc
 
 pub is_whole : (ws : Words) (asked : Asked) (to : ℕ) (others : Others) → AreWholeTexts ws.texts.items asked.texts to others → IsWhole ws asked (whole_of asked to others)
 is_whole ws asked to others texts null lawful e = e

@@ -6,6 +6,8 @@ use Rattle.feel_text.specs.Tests.{Test, Compares, Interval, Equals, Tests, Any, 
 use Rattle.dmn_table.specs.Table.{Rule, Table}
 use Rattle.dmn_analysis.specs.Constant.{bare, is_sum}
 use Rattle.dmn_analysis.specs.declared.asked.Asked.{Asked}
+use Rattle.dmn_analysis.specs.declared.asked.Numbers.{Numbers}
+use Rattle.dmn_analysis.specs.declared.asked.Numbers.TheVariants as numbers
 use Rattle.dmn_analysis.specs.declared.asked.Texts.{Texts}
 use Rattle.dmn_analysis.specs.declared.asked.Texts.TheVariants as texts
 
@@ -106,11 +108,16 @@ AskTexts words_only k texts.All = (is_empty k.words ≡ false) × (k.by_order �
 AskTexts words_only k (texts.These ts) =
     (is_empty k.words ≡ false) × (k.by_order ≡ false) × (words_only ≡ true)
 
+-- all numbers or none
+abbrev pub numbers_of : Bool → Numbers
+numbers_of true = numbers.All
+numbers_of false = numbers.None
+
 -- the values of the kinds of some constants are asked about
 pub record AsksKinds (words_only : Bool) (k : Kinds) (a : Asked) : Type 0 where
   pub null : a.null ≡ k.null
   pub truths : a.truths ≡ k.truths
-  pub numbers : a.numbers ≡ k.numbers
+  pub numbers : a.numbers ≡ numbers_of k.numbers
   pub parted : a.parted ≡ k.lists
   pub texts : AskTexts words_only k a.texts
 
@@ -118,7 +125,7 @@ pub record AsksKinds (words_only : Bool) (k : Kinds) (a : Asked) : Type 0 where
 pub record AsksAll (k : Kinds) (a : Asked) : Type 0 where
   pub null : a.null ≡ true
   pub truths : a.truths ≡ true
-  pub numbers : a.numbers ≡ true
+  pub numbers : a.numbers ≡ numbers.All
   pub parted : a.parted ≡ true
   pub utf8 : k.by_order ≡ true → a.texts ≡ texts.Utf8
   pub all : k.by_order ≡ false → a.texts ≡ texts.All

@@ -1,5 +1,5 @@
 -- Internal: no public contract cites these words. The cells of all values that are asked about.
-use Rattle.std.specs.Prelude.{◌≡◌, ℕ, pos, ◌-ℤ◌, List, true, not, ◌&&◌, ◌||◌, if◌then◌else◌, Some}
+use Rattle.std.specs.Prelude.{◌≡◌, ℕ, ℤ, pos, ◌-ℤ◌, List, true, not, ◌&&◌, ◌||◌, Some}
 use Rattle.std.specs.List.{slice_get}
 use Rattle.std.specs.declared.alloc.Global.{Global}
 use Rattle.std.specs.declared.sync.ArcStr.{ArcStr}
@@ -8,6 +8,8 @@ use Rattle.feel_value.specs.Limits.{is_value}
 use Rattle.dmn_analysis.specs.Asked.{is_asked, is_asked_text}
 use Rattle.dmn_analysis.specs.Cells.{is_in, is_one_of, is_text_among, words_within}
 use Rattle.dmn_analysis.specs.declared.asked.Asked.{Asked}
+use Rattle.dmn_analysis.specs.declared.asked.Numbers.{Numbers}
+use Rattle.dmn_analysis.specs.declared.asked.Numbers.TheVariants as numbers
 use Rattle.dmn_analysis.specs.declared.asked.Texts.{Texts}
 use Rattle.dmn_analysis.specs.declared.cell.Cell.{Cell}
 use Rattle.dmn_analysis.specs.declared.cell.Others.{Others}
@@ -18,14 +20,29 @@ abbrev pub AreWholeTexts : List (ArcStr Global) → Texts → ℕ → Others →
 AreWholeTexts words texts to others =
     (s : List ℕ) → is_asked_text texts s ≡ true → (is_text_among (words_within words 0 to) s || (is_one_of words others s && not (is_text_among words s))) ≡ true
 
+-- each of these texts is a word, or one of the others
+abbrev pub AreOthers : List (ArcStr Global) → List (ArcStr Global) → Others → Type 0
+AreOthers these words others = (s : List ℕ) → is_text_among these s ≡ true → (is_text_among words s || (is_one_of words others s && not (is_text_among words s))) ≡ true
+
+-- the lowest and the highest number that is asked about; where none is, the lowest lies above the highest
+abbrev pub lowest : Numbers → ℤ
+lowest numbers.None = pos 1
+lowest (numbers.Between low high) = low
+lowest numbers.All = pos 0 -ℤ pos 9223372036854775807
+
+abbrev pub highest : Numbers → ℤ
+highest numbers.None = pos 0
+highest (numbers.Between low high) = high
+highest numbers.All = pos 9223372036854775807
+
 -- all values that are asked about, with these texts
 abbrev pub whole_of : Asked → ℕ → Others → Cell
 whole_of asked to others = record {
   null = asked.null;
   yes = asked.truths;
   no = asked.truths;
-  low = if asked.numbers then (pos 0 -ℤ pos 9223372036854775807) else pos 1;
-  high = if asked.numbers then pos 9223372036854775807 else pos 0;
+  low = lowest asked.numbers;
+  high = highest asked.numbers;
   from = 0;
   to = to;
   others = others;

@@ -4,7 +4,7 @@ ghost use Rattle.dmn_analysis.specs.Cells.{words_within};
 
 use std::sync::ArcStr;
 
-/// The texts that stand in the tests of a column.
+/// The texts by which the values of a column are told.
 #[derive(Drop)]
 pub struct Words {
     /// These texts, each once.

@@ -14,7 +14,8 @@ pub struct Gap {
 /// The gaps of a table among the values that are asked about.
 #[derive(Drop)]
 pub struct Gaps {
-    /// The texts that stand in the tests of each column.
+    /// The texts of each column by which its values are told: those that it is asked about, where these are a few, and otherwise those
+    /// that stand in its tests.
     pub words: Vec<Words>,
     /// Gaps, as many as are wanted.
     pub found: Vec<Gap>,
@@ -43,7 +44,8 @@ pub struct Overlap {
 /// The pairs of rules that hit for the same values.
 #[derive(Drop)]
 pub struct Overlaps {
-    /// The texts that stand in the tests of each column.
+    /// The texts of each column by which its values are told: those that it is asked about, where these are a few, and otherwise those
+    /// that stand in its tests.
     pub words: Vec<Words>,
     /// Pairs, as many as are wanted.
     pub found: Vec<Overlap>,

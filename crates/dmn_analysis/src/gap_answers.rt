@@ -30,6 +30,7 @@ pub(crate) fn places(alloc: Global, count: usize) -> Result<Vec<usize>, AllocErr
     ensures below { IfOk result (λ places. All (λ r. r < count) places.items) }
     ensures each { IfOk result (λ places. (r : ℕ) → r < count → IsAmong places.items r) }
     ensures rising { IfOk result (λ places. IsRising places.items) }
+    ensures long { IfOk result (λ places. length places.items ≡ count) }
 {
     let mut places = Vec::with_capacity(alloc, count)?;
     for place in 0..count {
@@ -180,9 +181,10 @@ fn nothing_told(alloc: Global, words: Vec<Words>) -> Gaps
 }
 
 /// Whether some rule of the table hits, whatever the values of its input columns that are asked about and whatever the names stand
-/// for: the gaps among them, of which at most so many are told. `asked` has an entry for each input column, with all texts, none, or
-/// just those that stand in the column's tests, as `kinds_asked` has them; otherwise nothing is decided. The search takes at most so
-/// many steps: a step is one entry of a rule asked of some values, or eight tests of a long one that isn't a list of constants.
+/// for: the gaps among them, of which at most so many are told. `asked` has an entry for each input column; otherwise nothing is
+/// decided. Of some texts more are asked about: each that stands in the column's tests, and all where one of them doesn't. The search
+/// takes at most so many steps: a step is one entry of a rule asked of some values, or eight tests of a long one that isn't a list of
+/// constants.
 pub fn find_gaps(
     alloc: Global,
     table: &Table,
@@ -195,7 +197,7 @@ pub fn find_gaps(
 {
     let rules = table.rules();
     let count = table.inputs().len();
-    let words = all_words(alloc, rules, count)?;
+    let words = all_words(alloc, rules, asked, count)?;
     let Some(cells) = whole(alloc, &words, asked, count)? else {
         return Ok(nothing_told(alloc, words));
     };

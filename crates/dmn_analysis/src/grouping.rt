@@ -10,6 +10,7 @@ ghost use Rattle.dmn_analysis.specs.declared.cell.Cell.{Cell as CellData};
 
 use crate::asked::Asked;
 use crate::cell::{Cell, Words};
+use crate::choosing::is_empty;
 use crate::gap_answers::{are_none, places};
 use crate::gaps::Pending;
 use crate::row::{Row, rows_of};
@@ -65,6 +66,11 @@ fn put(
     Ok(())
 }
 
+// Whether one of the cells has no value: so are those that nothing is known to part cut.
+fn has_none(cells: &[Cell]) -> bool {
+    cells.iter().any(|cell| is_empty(*cell))
+}
+
 // One turn of the search: cells for whose values all rules that hit are of one group, or that were cut in two. False
 // where that isn't known.
 fn turn(
@@ -91,6 +97,9 @@ fn turn(
     let Some((lower, upper)) = halves(alloc, words, rows, &next.cells, &left, unsure, steps)? else {
         return Ok(false);
     };
+    if has_none(&lower) {
+        return Ok(false);
+    }
     put(alloc, lower, upper, left, pending)?;
     Ok(true)
 }
@@ -102,7 +111,7 @@ fn go_through(
     rows: &[Row],
     groups: &[usize],
     first: Pending,
-    steps: u64,
+    steps: &mut u64,
 ) -> Result<bool, AllocError>
     requires order { AllInOrder words.now }
     requires groups { length groups.now ≡ length rows.now }
@@ -110,9 +119,9 @@ fn go_through(
 {
     let mut pending = Vec::new(alloc);
     pending.push(first)?;
-    let mut rest = steps;
-    for _turn in 0..steps {
-        if rest == 0 {
+    let turns = *steps;
+    for _turn in 0..turns {
+        if *steps == 0 {
             return Ok(false);
         }
         if are_none(&pending) {
@@ -121,12 +130,38 @@ fn go_through(
         let Some(next) = pending.pop() else {
             return Ok(false);
         };
-        let known = turn(alloc, words, rows, groups, next, &mut pending, &mut rest)?;
+        let known = turn(alloc, words, rows, groups, next, &mut pending, steps)?;
         if !known {
             return Ok(false);
         }
     }
     Ok(false)
+}
+
+/// The same as `hit_in_one_group`. What the search leaves of the steps is told.
+pub(crate) fn known_in_one_group(
+    alloc: Global,
+    table: &Table,
+    asked: &[Asked],
+    groups: &[usize],
+    steps: &mut u64,
+) -> Result<bool, AllocError>
+    ensures { IfOk result (λ known. IsTrue known → HitInOneGroup table.now asked.now groups.now) }
+{
+    let rules = table.rules();
+    let count = table.inputs().len();
+    if groups.len() != rules.len() {
+        return Ok(false);
+    }
+    let words = all_words(alloc, rules, asked, count)?;
+    let Some(cells) = whole(alloc, &words, asked, count)? else {
+        return Ok(false);
+    };
+    let rows = rows_of(alloc, rules)?;
+    let left = places(alloc, rules.len())?;
+    let first = Pending { cells, left };
+    let known = go_through(alloc, &words, &rows, groups, first, steps)?;
+    Ok(known)
 }
 
 /// Whether it is known that all rules that hit are of one group, whatever the values of the table's input columns that
@@ -141,18 +176,7 @@ pub fn hit_in_one_group(
 ) -> Result<bool, AllocError>
     ensures { IfOk result (λ known. IsTrue known → HitInOneGroup table.now asked.now groups.now) }
 {
-    let rules = table.rules();
-    let count = table.inputs().len();
-    if groups.len() != rules.len() {
-        return Ok(false);
-    }
-    let words = all_words(alloc, rules, count)?;
-    let Some(cells) = whole(alloc, &words, asked, count)? else {
-        return Ok(false);
-    };
-    let rows = rows_of(alloc, rules)?;
-    let left = places(alloc, rules.len())?;
-    let first = Pending { cells, left };
-    let known = go_through(alloc, &words, &rows, groups, first, steps)?;
+    let mut rest = steps;
+    let known = known_in_one_group(alloc, table, asked, groups, &mut rest)?;
     Ok(known)
 }

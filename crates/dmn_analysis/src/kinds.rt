@@ -10,10 +10,10 @@ ghost use Rattle.feel_text.specs.View.{view, views};
 ghost use Rattle.dmn_table.specs.Parts.{rule_view};
 ghost use Rattle.dmn_analysis.specs.Asked.{is_asked, is_in_utf8};
 ghost use Rattle.dmn_analysis.specs.Constant.{is_arithmetic as is_arithmetic_of, is_sum as is_sum_of};
-ghost use Rattle.dmn_analysis.specs.Kinds.{AskKinds, AskTexts, AsksAll, AsksOf, Kinds, column_tests, has_none, is_list, is_null, is_truth, kinds_of, listed, tests_in, tests_of_entry, text_in, without_parentheses};
+ghost use Rattle.dmn_analysis.specs.Kinds.{AskKinds, AskTexts, AsksAll, AsksOf, Kinds, column_tests, has_none, is_list, is_null, is_truth, kinds_of, listed, numbers_of, tests_in, tests_of_entry, text_in, without_parentheses};
 ghost use Rattle.dmn_analysis.specs.Seeing.{entry_view, is_null_value, is_truth_value, is_whole_value, kinds_among, kinds_in, seen_kinds, value_words, with_kinds, with_words, words_of};
 
-use crate::asked::{Asked, Texts};
+use crate::asked::{Asked, Numbers, Texts};
 use crate::folded::bare;
 use crate::words::in_order;
 use dmn_table::{Rule, Table};
@@ -417,6 +417,7 @@ impl Seen {
             texts,
             has_order,
         } = self;
+        let numbers = numbers_asked(numbers);
         let texts = texts_asked(texts, words_only, has_order);
         Asked {
             null,
@@ -426,6 +427,12 @@ impl Seen {
             parted,
         }
     }
+}
+
+fn numbers_asked(are: bool) -> Numbers
+    ensures { result ≡ numbers_of are }
+{
+    if are { Numbers::All } else { Numbers::None }
 }
 
 // Of the texts that stand in tests, which are asked about.

@@ -2,6 +2,7 @@
 //! does; or values for which it is otherwise.
 #![tactic(auto)]
 
+mod always;
 mod asked;
 mod asking;
 mod bounds;
@@ -28,6 +29,7 @@ mod on_class;
 mod pair_answers;
 mod pairing;
 mod pairs;
+mod pricing;
 mod ranking;
 mod row;
 mod rule_on;
@@ -38,7 +40,8 @@ mod within;
 mod witness;
 mod words;
 
-pub use asked::{Asked, Texts};
+pub use always::{always_hits, never_two_hit};
+pub use asked::{Asked, Numbers, Texts};
 pub use cell::{Cell, Others, Words};
 pub use found::{Gap, Gaps, Mask, Masks, Overlap, Overlaps};
 pub use gap_answers::find_gaps;

@@ -175,7 +175,7 @@ pub fn find_overlaps(
 {
     let rules = table.rules();
     let count = table.inputs().len();
-    let words = all_words(alloc, rules, count)?;
+    let words = all_words(alloc, rules, asked, count)?;
     let Some(cells) = whole(alloc, &words, asked, count)? else {
         return Ok(nothing_told(alloc, words));
     };

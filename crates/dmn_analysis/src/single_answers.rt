@@ -29,7 +29,7 @@ fn are_covered(bare: &[Bare]) -> bool
 
 /// Whether wherever a rule hits for values of these cells one of some others does; and which of them. Where there are no others, it is
 /// told that it never hits. Otherwise None, or where that isn't known.
-fn behind(
+pub(crate) fn behind(
     alloc: Global,
     words: &[Words],
     rows: &[Row],
@@ -84,7 +84,7 @@ pub fn never_met(alloc: Global, table: &Table, asked: &[Asked]) -> Result<Vec<us
 {
     let rules = table.rules();
     let count = table.inputs().len();
-    let words = all_words(alloc, rules, count)?;
+    let words = all_words(alloc, rules, asked, count)?;
     let Some(cells) = whole(alloc, &words, asked, count)? else {
         return Ok(Vec::new(alloc));
     };
@@ -174,7 +174,7 @@ pub fn find_masked(
     ensures { IfOk result (λ masks. All (λ m. IsMaskedAmong table.now asked.now m.rule) masks.found.items) }
 {
     let count = table.inputs().len();
-    let words = all_words(alloc, table.rules(), count)?;
+    let words = all_words(alloc, table.rules(), asked, count)?;
     let ranks = ranks_under_policy(alloc, table)?;
     let mut rest = steps;
     let Some(cells) = whole(alloc, &words, asked, count)? else {

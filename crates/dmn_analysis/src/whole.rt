@@ -1,10 +1,12 @@
 //! The cells of all values that are asked about.
-ghost use Rattle.std.specs.Prelude.{◌≡◌, ◌≤◌, IfOk, IfSome, IsTrue, None, length, map};
+ghost use Rattle.std.specs.Prelude.{◌≡◌, ◌≤◌, IfOk, IfSome, IsTrue, None, bytes_eq, length, map};
 ghost use Rattle.std.specs.Arc.{arc_str_bytes};
-ghost use Rattle.dmn_analysis.specs.Claims.{AreKnown, AreTextsKnown};
-ghost use Rattle.dmn_analysis.specs.Whole.{AreWhole, AreWholeTexts, IsWhole, whole_of};
+ghost use Rattle.std.specs.List.{list_all};
+ghost use Rattle.dmn_analysis.specs.Cells.{is_text_among};
+ghost use Rattle.dmn_analysis.specs.Claims.{AreKnown};
+ghost use Rattle.dmn_analysis.specs.Whole.{AreOthers, AreWhole, AreWholeTexts, IsWhole, highest as highest_of, lowest as lowest_of, whole_of};
 
-use crate::asked::{Asked, Texts};
+use crate::asked::{Asked, Numbers, Texts};
 use crate::cell::{Cell, Others, Words};
 use std::alloc::{AllocError, Global};
 use std::sync::ArcStr;
@@ -32,6 +34,41 @@ fn are_same(a: &[ArcStr], b: &[ArcStr]) -> bool
     true
 }
 
+// Whether this is the text.
+fn is_text(text: &ArcStr, word: &ArcStr) -> bool
+    ensures { result ≡ bytes_eq (arc_str_bytes text.now) (arc_str_bytes word.now) }
+{
+    text.as_str() == word.as_str()
+}
+
+// Whether this is one of the words.
+fn is_word(text: &ArcStr, words: &[ArcStr]) -> bool
+    ensures { result ≡ is_text_among words.now (arc_str_bytes text.now) }
+{
+    words.iter().any(|word| is_text(text, word))
+}
+
+// Whether each of these is one of the words.
+fn are_words(these: &[ArcStr], words: &[ArcStr]) -> bool
+    ensures { result ≡ list_all (λ t. is_text_among words.now (arc_str_bytes t)) these.now }
+{
+    these.iter().all(|text| is_word(text, words))
+}
+
+// Which texts beside the words are asked about with these: none where each of these is a word, and otherwise all.
+fn others_beside(these: &[ArcStr], words: &[ArcStr]) -> Others
+    ensures { AreOthers these.now words.now result }
+{
+    if are_same(these, words) {
+        return Others::None;
+    }
+    if are_words(these, words) {
+        Others::None
+    } else {
+        Others::All
+    }
+}
+
 /// Which texts of a column are asked about: its words before a place, and some of the others.
 #[derive(Clone, Copy)]
 struct WholeTexts {
@@ -39,33 +76,48 @@ struct WholeTexts {
     others: Others,
 }
 
-// The texts that are asked about, where they are all, those in UTF-8, none or the words.
-fn whole_texts(words: &[ArcStr], texts: &Texts) -> Option<WholeTexts>
-    ensures all { IfSome result (λ all. AreWholeTexts words.now texts.now all.to all.others) }
-    ensures none { result ≡ None → AreTextsKnown words.now texts.now → ⊥ }
+// The texts that are asked about, and maybe more: with some of the words the others too, and with a text that is none all texts.
+fn whole_texts(words: &[ArcStr], texts: &Texts) -> WholeTexts
+    ensures { AreWholeTexts words.now texts.now result.to result.others }
 {
     match texts {
-        Texts::None => Some(WholeTexts {
+        Texts::None => WholeTexts {
             to: 0,
             others: Others::None,
-        }),
-        Texts::Utf8 => Some(WholeTexts {
+        },
+        Texts::Utf8 => WholeTexts {
             to: words.len(),
             others: Others::Between(0, words.len()),
-        }),
-        Texts::All => Some(WholeTexts {
+        },
+        Texts::All => WholeTexts {
             to: words.len(),
             others: Others::All,
-        }),
-        Texts::These(these) => {
-            if !are_same(these, words) {
-                return None;
-            }
-            Some(WholeTexts {
-                to: words.len(),
-                others: Others::None,
-            })
-        }
+        },
+        Texts::These(these) => WholeTexts {
+            to: words.len(),
+            others: others_beside(these, words),
+        },
+    }
+}
+
+// The lowest number that is asked about; where none is, it lies above the highest.
+fn lowest(numbers: Numbers) -> i64
+    ensures { result ≡ lowest_of numbers }
+{
+    match numbers {
+        Numbers::None => 1,
+        Numbers::Between(low, _) => low,
+        Numbers::All => -i64::MAX,
+    }
+}
+
+fn highest(numbers: Numbers) -> i64
+    ensures { result ≡ highest_of numbers }
+{
+    match numbers {
+        Numbers::None => 0,
+        Numbers::Between(_, high) => high,
+        Numbers::All => i64::MAX,
     }
 }
 
@@ -77,8 +129,8 @@ fn with_texts(asked: &Asked, texts: WholeTexts) -> Cell
         null: asked.null,
         yes: asked.truths,
         no: asked.truths,
-        low: if asked.numbers { -i64::MAX } else { 1 },
-        high: if asked.numbers { i64::MAX } else { 0 },
+        low: lowest(asked.numbers),
+        high: highest(asked.numbers),
         from: 0,
         to: texts.to,
         others: texts.others,
@@ -86,18 +138,15 @@ fn with_texts(asked: &Asked, texts: WholeTexts) -> Cell
     }
 }
 
-/// The values of a column that are asked about; None where those of its texts are neither all, none nor its words.
-fn whole_cell(words: &Words, asked: &Asked) -> Option<Cell>
-    ensures whole { IfSome result (λ cell. IsWhole words.now asked.now cell) }
-    ensures none { result ≡ None → AreTextsKnown words.now.texts.items asked.now.texts → ⊥ }
+/// The values of a column that are asked about.
+fn whole_cell(words: &Words, asked: &Asked) -> Cell
+    ensures { IsWhole words.now asked.now result }
 {
-    let texts = whole_texts(&words.texts, &asked.texts)?;
-    let cell = with_texts(asked, texts);
-    Some(cell)
+    let texts = whole_texts(&words.texts, &asked.texts);
+    with_texts(asked, texts)
 }
 
-/// The values of so many columns that are asked about; None where there are fewer, or a column's texts are neither all, none nor
-/// its words.
+/// The values of so many columns that are asked about; None where there are fewer.
 pub(crate) fn whole(
     alloc: Global,
     words: &[Words],
@@ -113,10 +162,7 @@ pub(crate) fn whole(
         if place >= words.len() || place >= asked.len() {
             return Ok(None);
         }
-        let Some(cell) = whole_cell(&words[place], &asked[place]) else {
-            return Ok(None);
-        };
-        cells.push(cell)?;
+        cells.push(whole_cell(&words[place], &asked[place]))?;
     }
     Ok(Some(cells))
 }

@@ -1,7 +1,8 @@
-//! The texts that stand in the tests of a table's columns.
+//! The texts by which the values of a table's columns are told.
 ghost use Rattle.std.specs.Prelude.{◌≡◌, IfOk, IsTrue, length};
 ghost use Rattle.dmn_analysis.specs.Cells.{AllInOrder, AreInOrder};
 
+use crate::asked::{Asked, Texts};
 use crate::cell::Words;
 use crate::class::is_less;
 use crate::folded::{bare, literal};
@@ -71,17 +72,55 @@ pub(crate) fn are_in_order(texts: &[ArcStr]) -> bool
     true
 }
 
-/// The texts that stand in the tests of the column at this place, each once, in their order. That they are in order is looked at again,
-/// so that it can be relied on; if they weren't, there would be none.
-pub(crate) fn words_of(alloc: Global, rules: &[Rule], place: usize) -> Result<Words, AllocError>
-    ensures { IfOk result (λ words. AreInOrder words.texts.items) }
-{
+// The texts that stand in the tests of the column at this place.
+fn tested_texts(alloc: Global, rules: &[Rule], place: usize) -> Result<Vec<ArcStr>, AllocError> {
     let mut texts = Vec::new(alloc);
     for rule in rules {
         if let Some(tests) = rule.tests.get(place) {
             add_tests(&mut texts, tests.tree())?;
         }
     }
+    Ok(texts)
+}
+
+fn copied(alloc: Global, texts: &[ArcStr]) -> Result<Vec<ArcStr>, AllocError> {
+    let mut copies = Vec::with_capacity(alloc, texts.len())?;
+    for text in texts {
+        copies.push(text.clone()?)?;
+    }
+    Ok(copies)
+}
+
+// The texts that a column is asked about, where these are a few, and otherwise those that stand in its tests.
+fn texts_of(
+    alloc: Global,
+    rules: &[Rule],
+    asked: &[Asked],
+    place: usize,
+) -> Result<Vec<ArcStr>, AllocError> {
+    match asked.get(place) {
+        Some(
+            Asked {
+                texts: Texts::These(texts),
+                ..
+            },
+        ) => copied(alloc, texts),
+        _ => tested_texts(alloc, rules, place),
+    }
+}
+
+/// The texts by which the values of the column at this place are told, each once, in their order: those that it is asked about, where
+/// these are a few, and otherwise those that stand in its tests. That they are in order is looked at again, so that it can be relied
+/// on; if they weren't, there would be none.
+pub(crate) fn words_of(
+    alloc: Global,
+    rules: &[Rule],
+    asked: &[Asked],
+    place: usize,
+) -> Result<Words, AllocError>
+    ensures { IfOk result (λ words. AreInOrder words.texts.items) }
+{
+    let texts = texts_of(alloc, rules, asked, place)?;
     let texts = in_order(texts);
     if !are_in_order(&texts) {
         return Ok(Words {
@@ -95,6 +134,7 @@ pub(crate) fn words_of(alloc: Global, rules: &[Rule], place: usize) -> Result<Wo
 pub(crate) fn all_words(
     alloc: Global,
     rules: &[Rule],
+    asked: &[Asked],
     count: usize,
 ) -> Result<Vec<Words>, AllocError>
     ensures count { IfOk result (λ all. length all.items ≡ count) }
@@ -102,7 +142,7 @@ pub(crate) fn all_words(
 {
     let mut all = Vec::with_capacity(alloc, count)?;
     for place in 0..count {
-        let words = words_of(alloc, rules, place)?;
+        let words = words_of(alloc, rules, asked, place)?;
         all.push(words)?;
     }
     Ok(all)

@@ -15,3 +15,4 @@ mod Floats
 pub mod Decided
 pub mod Logics
 mod NameClasses
+mod Named

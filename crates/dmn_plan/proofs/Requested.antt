@@ -12,7 +12,7 @@ use Rattle.dmn_form.specs.Model.{Name, Service, Model}
 use Rattle.dmn_plan.specs.Indexed.{IsPlanAt, IsIndexed}
 use Rattle.dmn_plan.specs.ReadModel.{read_text}
 use Rattle.dmn_plan.specs.Request.{Request, TakesValues, service_in, service_named, value_under, values_under, request_with, request_to, request_of}
-use Rattle.dmn_plan.specs.Served.{IsServicePlan}
+use Rattle.dmn_plan.specs.Served.{ArePlansOf, IsServicePlan}
 use Rattle.dmn_plan.specs.declared.fault.ModelFault.{ModelFault}
 use Rattle.dmn_plan.specs.declared.fault.TaskFault.TheVariants as fault
 use Rattle.dmn_service.specs.Decision.{parameters_of}
@@ -86,6 +86,24 @@ pub served : (r : Result (Model Expr Table) ModelFault) (items : List Item) (fou
     → IsIndexed r items found → Some p ≡ get_by_text found n → IsServicePlan r n items p
 served (Ok m) items found n p h e = served_at m items n (service_named m.services n) (get_by_text found n) p refl (h n) (sym e)
 served (Err f) items found n p h e = absurd h
+
+-- and those that are found for these names are the plans of these services
+plan_and : (r : Result (Model Expr Table) ModelFault) (items : List Item) (found : BTreeMap (String Global) ServicePlan) (n : Name) (ns : List Name) (o : Option ServicePlan) (rest : Option (List ServicePlan)) (ps : List ServicePlan)
+    → IsIndexed r items found → o ≡ get_by_text found n → ((qs : List ServicePlan) → rest ≡ Some qs → ArePlansOf r items ns qs) → (o >>= λ p. rest >>= λ qs. Some (p ∷ qs)) ≡ Some ps → ArePlansOf r items (n ∷ ns) ps
+plan_and r items found n ns None rest ps h is others e = cc
+plan_and r items found n ns (Some p) None ps h is others e = cc
+plan_and r items found n ns (Some p) (Some qs) ps h is others e =
+    let same : p ∷ qs ≡ ps = cc in
+    subst (ArePlansOf r items (n ∷ ns)) same (served r items found n p h is, others qs refl)
+
+none_left : (r : Result (Model Expr Table) ModelFault) (items : List Item) (ps : List ServicePlan) → Some [] ≡ Some ps → ArePlansOf r items [] ps
+none_left r items [] e = tt
+none_left r items (p ∷ ps) e = cc
+
+pub all_served : (r : Result (Model Expr Table) ModelFault) (items : List Item) (found : BTreeMap (String Global) ServicePlan) (ns : List Name) (ps : List ServicePlan)
+    → IsIndexed r items found → each (get_by_text found) ns ≡ Some ps → ArePlansOf r items ns ps
+all_served r items found [] ps h e = none_left r items ps e
+all_served r items found (n ∷ ns) ps h e = plan_and r items found n ns (get_by_text found n) (each (get_by_text found) ns) ps h refl (λ qs f. all_served r items found ns qs h f) e
 
 lacks_at : (m : Model Expr Table) (items : List Item) (so : Option Service) (o : Option ServicePlan) → IsPlanAt m items so o → o ≡ None → so ≡ None
 lacks_at m items None o h e = refl

@@ -1,6 +1,7 @@
 //! The plans of services under their names.
-ghost use Rattle.std.specs.Prelude.{◌≡◌, ℕ, List, OnOk, IfOk, Some, None, bytes_eq, if◌then◌else◌, string_bytes};
+ghost use Rattle.std.specs.Prelude.{◌≡◌, ℕ, List, OnOk, IfOk, Some, None, bytes_eq, if◌then◌else◌, map, option_map, string_bytes};
 ghost use Rattle.std.specs.BTreeMap.{get_by_text};
+ghost use Rattle.feel_value.specs.Found.{each};
 ghost use Rattle.dmn_plan.specs.Indexed.{first_of, plan_named};
 
 use dmn_service::ServicePlan;
@@ -35,4 +36,22 @@ pub(crate) fn plans_by_name(
         put_first(alloc, &mut found, plan)?;
     }
     Ok(found)
+}
+
+/// The plans of these names; None where one has none.
+pub(crate) fn plans_among<'a>(
+    alloc: Global,
+    plans: &'a BTreeMap<String, ServicePlan>,
+    names: &[&str],
+) -> Result<Option<Vec<&'a ServicePlan>>, AllocError>
+    ensures { IfOk result (λ found. option_map (λ v. map (λ p. p.now) v.items) found ≡ each (λ n. get_by_text plans.now n.now) names.now) }
+{
+    let mut found = Vec::with_capacity(alloc, names.len())?;
+    for name in names {
+        let Some(plan) = plans.get(*name) else {
+            return Ok(None);
+        };
+        found.push(plan)?;
+    }
+    Ok(Some(found))
 }

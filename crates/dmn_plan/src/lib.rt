@@ -19,5 +19,5 @@ mod values;
 pub use course::Course;
 pub use fault::{ModelFault, TaskFault};
 pub use marked::MarkedPlan;
-pub use plan::Plan;
+pub use plan::{Plan, Services};
 pub use task::Task;

@@ -6,7 +6,7 @@ ghost use Rattle.dmn_plan.specs.Due.{IsReadDue};
 
 use crate::course::Course;
 use crate::fault::{ModelFault, TaskFault};
-use crate::index::plans_by_name;
+use crate::index::{plans_among, plans_by_name};
 use crate::items::logics_in;
 use crate::planning::plan_of;
 use crate::values::{names_at, values_at};
@@ -24,6 +24,15 @@ pub struct Plan {
     text: String,
     items: Vec<Item>,
     services: BTreeMap<String, ServicePlan>,
+}
+
+/// Services of a model: its items, and the plans of some services among them.
+#[derive(Drop)]
+pub struct Services<'a> {
+    /// The inputs of the model and then its decisions, each at its place.
+    pub items: &'a [Item],
+    /// The plans.
+    pub plans: Vec<&'a ServicePlan>,
 }
 
 impl Model for Plan {
@@ -57,7 +66,7 @@ impl Plan {
     ghost use Rattle.dmn_service.specs.Decision.{parameters_of};
     ghost use Rattle.std.specs.Prelude.{length, map, Ok, IfSome, is_some};
     ghost use Rattle.dmn_plan.specs.Course.{IsCourseOf};
-    ghost use Rattle.dmn_plan.specs.Served.{IsServicePlan};
+    ghost use Rattle.dmn_plan.specs.Served.{ArePlansOf, IsServicePlan};
 
     /// The plan of a model in JSON, or its first fault: Shape, Name, Twice, Expression, Table, Unknown, Cycle, Service, Large, in
     /// this order. Its text is the compact text of the value, with the keys of each object in the order of their bytes.
@@ -195,6 +204,23 @@ impl Plan {
     {
         let plan = self.services.get(service)?;
         Some((&self.items, plan))
+    }
+
+    /// The plans of the services of these names, in their order. None where there is no such service.
+    pub fn services<'a>(
+        &'a self,
+        alloc: Global,
+        names: &[&str],
+    ) -> Result<Option<Services<'a>>, AllocError>
+        ensures { IfOk result (λ found. IfSome found (λ s. ArePlansOf (read_text self.now) s.items.now (map (λ n. n.now) names.now) (map (λ p. p.now) s.plans.items))) }
+    {
+        let Some(plans) = plans_among(alloc, &self.services, names)? else {
+            return Ok(None);
+        };
+        Ok(Some(Services {
+            items: &self.items,
+            plans,
+        }))
     }
 
     /// The logic of each decision, in the order of the model.

@@ -1,5 +1,5 @@
 -- Lists and contexts that are formed of parts.
-use Rattle.std.proofs.Common.{◌≡◌, refl, ℕ, suc, ◌+◌, ◌*◌, ◌≤◌, max, List, [], ◌∷◌, length, Bool, true, false, ◌&&◌, ◌||◌, Option, None, Some, arith}
+use Rattle.std.proofs.Common.{◌≡◌, refl, ℕ, suc, ◌+◌, ◌*◌, ◌≤◌, max, List, [], ◌∷◌, length, true, Option, None, Some, arith}
 use Rattle.std.specs.List.{fold, list_all, zip}
 use Rattle.std.proofs.Math.Nat.{le-max_left, le-max_right, max-le, suc-mul}
 use Rattle.std.proofs.lemmas.Nat.{mul-le}
@@ -7,7 +7,7 @@ use Rattle.feel_value.proofs.Booleans.{both_true}
 use Rattle.feel_value.specs.Distinct.{are_distinct}
 use Rattle.feel_value.specs.Found.{value_of, ◌>>=◌, each}
 use Rattle.dmn_table.proofs.Scalars.{differ}
-use Rattle.feel_value.specs.Datum.{Datum, list, context, Items, no_items, item, items_of, Entries, entries_of}
+use Rattle.feel_value.specs.Datum.{Datum, list, context, Items, item, items_of, Entries, entries_of}
 use Rattle.feel_value.specs.Limits.{nodes, items_nodes, entries_nodes, depth, items_depth, entries_depth, numbers_in_range, items_in_range, entries_in_range, names_distinct, items_distinct, entries_distinct}
 use Rattle.feel_value.specs.Outcome.{held}
 use Rattle.feel_value.specs.declared.feel.Outcome.{Outcome}

@@ -20,7 +20,7 @@ use Rattle.feel_text.specs.declared.expr.Operator.{Operator}
 use Rattle.feel_text.specs.declared.expr.Operator.TheVariants as operator
 use Rattle.feel_text.specs.declared.expr.Function.{Function}
 use Rattle.feel_text.specs.declared.expr.Function.TheVariants as function
-use Rattle.dmn_ranges.specs.Numbers.{most_number, absolute, remainder, has_divisor}
+use Rattle.dmn_ranges.specs.Numbers.{absolute, remainder, has_divisor}
 use Rattle.dmn_ranges.specs.Ranges.{inside, within, keeps, lies_in, covers, null_alone}
 use Rattle.dmn_ranges.specs.Sizes.{larger}
 use Rattle.dmn_ranges.specs.Steps.{everything, numbers_or_null, any_of_size, joined, is_other, is_other_than_list, given, limited, with_one, with_two, either_outcomes, when, numbers_given, worked_out, paired, arithmetic, negated, absolute_if, absolutes, some_number, divided, remainders, truths, opposite, and_truths, or_truths, less_truths, equal_truths, operated, between, inverted, summed, picked, counted, called, paths, natural, branches, point, outcomes}
@@ -32,7 +32,7 @@ use Rattle.dmn_ranges.specs.declared.size.Size.{Size}
 use Rattle.dmn_ranges.specs.declared.truths.Truths.{Truths}
 use Rattle.dmn_ranges.proofs.Comparisons.{others, less_told, equal_told}
 use Rattle.dmn_ranges.proofs.FewTexts.{has_one, has_other}
-use Rattle.dmn_ranges.proofs.Intervals.{Met, le_same, number_in_all, zero_below, most_above, sum_met, difference_met, product_met, absolute_met, zero_or_not, divisor_in, remainder_met, hull_one, hull_other}
+use Rattle.dmn_ranges.proofs.Intervals.{Met, le_same, number_in_all, zero_below, sum_met, difference_met, product_met, absolute_met, zero_or_not, divisor_in, remainder_met, hull_one, hull_other}
 use Rattle.dmn_ranges.proofs.Joins.{or_left, or_right, and_both, other_in, no_list_in, list_in, list_keeps, context_in, context_keeps}
 use Rattle.dmn_ranges.proofs.Paths.{path_keeps}
 use Rattle.dmn_ranges.proofs.Sizes.{keeps_one, keeps_other, kept_value, valued, count_kept}

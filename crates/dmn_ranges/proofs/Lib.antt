@@ -1,3 +1,4 @@
+pub mod Naming
 pub mod FewTexts
 pub mod Joins
 pub mod Sizes
@@ -14,8 +15,10 @@ pub mod SoundEntries
 pub mod SoundDomains
 pub mod SoundRules
 pub mod SoundTallies
+pub mod SoundAsking
 pub mod SoundTable
 pub mod SoundBoxes
 pub mod SoundServices
 pub mod SoundDecisions
+pub mod SoundColumns
 pub mod BoxForms

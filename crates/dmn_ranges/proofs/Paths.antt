@@ -1,5 +1,5 @@
 -- A path into a value leads to a value that is no larger.
-use Rattle.std.proofs.Common.{◌≡◌, refl, ℕ, ◌+◌, ◌≤◌, max, List, Bool, true, false, ◌&&◌, Option, None, Some, if◌then◌else◌, arith}
+use Rattle.std.proofs.Common.{◌≡◌, refl, ℕ, ◌+◌, ◌≤◌, max, List, Bool, true, false, Option, Some, if◌then◌else◌, arith}
 use Rattle.std.specs.Prelude.{unwrap_or, bytes_eq}
 use Rattle.std.proofs.Math.Nat.{le-max_left, le-max_right, max-le}
 use Rattle.feel_value.proofs.Booleans.{both_true}

@@ -1,24 +1,20 @@
 -- How large values are that are formed of parts, and what is told of them.
-use Rattle.std.proofs.Common.{◌≡◌, ◌∙◌, refl, sym, ap, subst, ℕ, suc, ◌+◌, ◌*◌, ◌≤◌, ◌<◌, max, ℤ, pos, negsuc, List, [], ◌∷◌, length, Bool, true, false, not, ◌&&◌, ◌||◌, Option, None, Some, if◌then◌else◌, arith}
-use Rattle.std.specs.Prelude.{nat_le, nat_lt, int_le, unwrap_or, bytes_eq}
-use Rattle.std.proofs.Math.Nat.{le-max_left, le-max_right, max-le}
+use Rattle.std.proofs.Common.{◌≡◌, refl, ℕ, suc, ◌+◌, ◌*◌, ◌≤◌, ◌<◌, max, ℤ, pos, negsuc, length, Bool, true, false, not, ◌&&◌, Option, None, Some, if◌then◌else◌, arith}
+use Rattle.std.specs.Prelude.{nat_le, nat_lt, int_le}
+use Rattle.std.proofs.Math.Nat.{max-le}
 use Rattle.std.proofs.lemmas.Bool.Decides.{nat_tests}
 use Rattle.std.proofs.lemmas.Int.{ints}
 use Rattle.std.proofs.lemmas.Nat.{mul-le}
-use Rattle.std.specs.List.{list_all, zip}
 use Rattle.feel_value.proofs.Booleans.{both_true}
-use Rattle.feel_value.specs.Datum.{Datum, null, boolean, number, text, list, context, Items, no_items, item, items_of, members_of, Entries, no_entries, entry, entries_of, value_at}
+use Rattle.feel_value.specs.Datum.{Datum, null, boolean, number, text, list, context, Items, no_items, item, members_of, Entries}
 use Rattle.feel_value.specs.Limits.{most_nodes, most_depth, in_range, nodes, items_nodes, entries_nodes, depth, items_depth, entries_depth, numbers_in_range, items_in_range, entries_in_range, keeps_size, keeps_limits, names_differ, names_distinct, items_distinct, entries_distinct, is_value}
 use Rattle.feel_value.specs.Outcome.{held}
-use Rattle.feel_value.specs.declared.feel.Outcome.{Outcome}
 use Rattle.feel_value.specs.declared.feel.Outcome.TheVariants.{Is, Limit}
-use Rattle.feel_text.specs.Meaning.{path_of, paths_of}
 use Rattle.dmn_ranges.specs.Numbers.{least_number, most_number}
-use Rattle.dmn_ranges.specs.Ranges.{inside, within, keeps, lies_in, covers}
+use Rattle.dmn_ranges.specs.Ranges.{within, keeps, lies_in, covers}
 use Rattle.dmn_ranges.specs.Sizes.{no_size, any_size, more, larger, capped, beside, times, fits, around}
-use Rattle.dmn_ranges.specs.Steps.{are_numbers, size_of, lists_of, contexts_of, listed, named_parts}
+use Rattle.dmn_ranges.specs.Steps.{are_numbers, size_of, listed, named_parts}
 use Rattle.dmn_ranges.specs.declared.interval.Interval.{Interval}
-use Rattle.dmn_ranges.specs.declared.outcomes.Outcomes.{Outcomes}
 use Rattle.dmn_ranges.specs.declared.range.Range.{Range}
 use Rattle.dmn_ranges.specs.declared.size.Size.{Size}
 
@@ -194,7 +190,7 @@ in_range_between (negsuc n) h k = grind (arith, ints, nat_tests)
 le_along : (a b c : ℤ) → int_le a b ≡ true → int_le b c ≡ true → int_le a c ≡ true
 le_along a b c h k = grind (arith, ints)
 
-number_ranged : (o : Option Interval) (z : ℤ) → within o z ≡ true → are_numbers o ≡ true → in_range z ≡ true
+pub number_ranged : (o : Option Interval) (z : ℤ) → within o z ≡ true → are_numbers o ≡ true → in_range z ≡ true
 number_ranged None z h k = cc
 number_ranged (Some i) z h k =
     let p = both_true (int_le i.low z) (int_le z i.high) h in

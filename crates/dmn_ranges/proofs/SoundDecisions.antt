@@ -70,10 +70,10 @@ filled_found items (q ∷ qs) os all count =
     filled_found items qs (slice_set os q o) (others_inside (length items) q qs all) (length_set os q o ∙ count)
     ∙ ap (filled_by items qs) (values_in-set os q o (omega (arith, count, first_inside (length items) q qs all)))
 
-abbrev run : List Item → ServicePlan → List Datum → List Outcome
+abbrev pub run : List Item → ServicePlan → List Datum → List Outcome
 run items plan values = filled_list items plan.order.items (given_list plan.parameters.items values (blank (length items)))
 
-run_found : (items : List Item) (plan : ServicePlan) (values : List Datum) → HasPlacesWithin items plan
+pub run_found : (items : List Item) (plan : ServicePlan) (values : List Datum) → HasPlacesWithin items plan
     → values_in (run items plan values) ≡ filled_by items plan.order.items (given_at plan.parameters.items values nothing_found)
 run_found items plan values inside =
     filled_found items plan.order.items (given_list plan.parameters.items values (blank (length items))) inside.order (length_given plan.parameters.items values (blank (length items)) ∙ length_blank (length items))

@@ -19,7 +19,8 @@ use Rattle.dmn_table.specs.Hits.{is_satisfied, does_hit, values_of, output_of, h
 use Rattle.dmn_table.specs.Priority.{Hit, places_of}
 use Rattle.dmn_table.specs.Result.{default_of, default_values, defaults}
 use Rattle.dmn_table.specs.Table.{Column, Rule}
-use Rattle.dmn_ranges.specs.Ranges.{Scope, Fits, lies_in, covers, null_alone}
+use Rattle.dmn_ranges.specs.Asking.{AllIn}
+use Rattle.dmn_ranges.specs.Ranges.{Scope, Fits, covers, null_alone}
 use Rattle.dmn_ranges.specs.Steps.{outcomes, given, no_parts, named_parts, context_of}
 use Rattle.dmn_ranges.specs.Sizes.{no_size}
 use Rattle.dmn_ranges.specs.Entries.{entry_answers}
@@ -35,13 +36,6 @@ use Rattle.dmn_ranges.proofs.Sound.{sound}
 use Rattle.dmn_ranges.proofs.SoundEntries.{answers, entry_told}
 
 -- ---- inputs
-
--- each value lies in what is told of its column
-abbrev pub AllIn : List Outcomes → List Datum → Type 0
-AllIn [] [] = Unit {0}
-AllIn [] (v ∷ vs) = ⊥
-AllIn (o ∷ os) [] = ⊥
-AllIn (o ∷ os) (v ∷ vs) = (lies_in o.range v ≡ true) × AllIn os vs
 
 abbrev pub InputsTold : List Outcomes → Option (List Datum) → Type 0
 InputsTold os None = some_limit os ≡ true

@@ -1,9 +1,9 @@
 -- What is told of the places of a plan holds of what a run finds there.
-use Rattle.std.proofs.Common.{◌≡◌, ◌∙◌, refl, sym, ap, subst, ℕ, zero, suc, ◌+◌, ◌<◌, List, [], ◌∷◌, ◌++◌, length, get_or, drop, map, append_assoc, add-one, Bool, true, false, cond, ◌||◌, Option, None, Some, option_map, unwrap_or, if◌then◌else◌, inl, inr, ◌⊎◌, arith}
+use Rattle.std.proofs.Common.{◌≡◌, ◌∙◌, refl, sym, ap, subst, ℕ, zero, suc, ◌+◌, ◌<◌, ◌≤◌, List, [], ◌∷◌, ◌++◌, length, get_or, drop, map, append_assoc, add-one, Bool, true, false, cond, ◌||◌, Option, None, Some, option_map, unwrap_or, if◌then◌else◌, inl, inr, ◌⊎◌, arith}
 use Rattle.std.specs.Prelude.{bytes_eq, nat_eq, slice_set, ◌≢◌}
 use Rattle.std.specs.List.{slice_get, zip, All}
 use Rattle.std.proofs.lemmas.Bool.Decides.{eqb_tells}
-use Rattle.std.proofs.lemmas.List.{at_drop_more, get_or-map}
+use Rattle.std.proofs.lemmas.List.{at_drop_more, drop_all, get_or-map}
 use Rattle.feel_value.specs.Datum.{Datum, null, context, entries_of, Entries}
 use Rattle.feel_value.specs.Found.{value_of, ◌>>=◌, each, outcome_from}
 use Rattle.feel_value.specs.Limits.{is_value}
@@ -19,17 +19,15 @@ use Rattle.dmn_logic.specs.LogicView.{logic_view}
 use Rattle.dmn_service.specs.Places.{name_at, needs_at}
 use Rattle.dmn_service.specs.Run.{Found, nothing_found, kept_at, needed_at, outcome_at, filled_by, given_at, logic_at, outputs_at}
 use Rattle.dmn_service.specs.declared.plan.Item.{Item}
-use Rattle.dmn_ranges.specs.Ranges.{Scope, scope, Fits, lies_in, covers, null_alone, named_or, range_named, AreWithin}
-use Rattle.dmn_ranges.specs.Steps.{limited}
+use Rattle.dmn_ranges.specs.Ranges.{Scope, Fits, lies_in, covers, null_alone, named_or, range_named, AreWithin}
+use Rattle.dmn_ranges.specs.Steps.{given, limited}
 use Rattle.dmn_ranges.specs.Tables.{some_context}
-use Rattle.dmn_ranges.specs.Boxes.{box_outcomes}
-use Rattle.dmn_ranges.specs.Services.{not_found, told_at, TellsFound, given_if, domain_at, given_told, needs_scope, needs_limit, place_outcomes, filled_told, outputs_outcomes}
-use Rattle.dmn_ranges.specs.declared.range.NamedRange.{NamedRange}
+use Rattle.dmn_ranges.specs.Boxes.{TellsBox}
+use Rattle.dmn_ranges.specs.Services.{not_found, told_at, TellsFound, given_if, domain_at, given_told, needs_scope, needs_limit, TellsItem, TellsFilled, outputs_outcomes}
 use Rattle.dmn_ranges.specs.declared.outcomes.Outcomes.{Outcomes}
 use Rattle.dmn_ranges.specs.declared.range.Range.{Range}
 use Rattle.dmn_ranges.proofs.Forms.{limited_covers}
 use Rattle.dmn_ranges.proofs.Joins.{or_left, or_right}
-use Rattle.dmn_ranges.proofs.SoundBoxes.{box_sound}
 use Rattle.dmn_ranges.proofs.SoundRules.{context_if}
 
 -- ---- a place that is written
@@ -84,7 +82,7 @@ here_by true r s v o h k = h
 here_by false r s v o h k = k
 
 -- the same behind a name that was told before
-abbrev FitsBehind : Scope → Bindings → Type 0
+abbrev pub FitsBehind : Scope → Bindings → Type 0
 FitsBehind xs m = (name : Name) (r : Range) (o : Option Datum) → lies_in r (unwrap_or o null) ≡ true → lies_in (named_or r xs name) (unwrap_or (first_some (bound name m) o) null) ≡ true
 
 one_behind : (n : Name) (s : Range) (v : Datum) (xs : Scope) (m : Bindings) → lies_in s v ≡ true → FitsBehind xs m → FitsBehind ((n, s) ∷ xs) ((n, v) ∷ m)
@@ -97,12 +95,12 @@ first_some_none : (o : Option Datum) → first_some o None ≡ o
 first_some_none None = refl
 first_some_none (Some d) = refl
 
-fits_alone : (xs : Scope) (m : Bindings) → FitsBehind xs m → Fits xs m
+pub fits_alone : (xs : Scope) (m : Bindings) → FitsBehind xs m → Fits xs m
 fits_alone xs m fits name =
     let P : Option Datum → Type 0 = λ p. lies_in (range_named xs name) (unwrap_or p null) ≡ true in
     subst P (first_some_none (bound name m)) (fits name null_alone None refl)
 
-abbrev NeedsTold : Bool → Scope → Option Bindings → Type 0
+abbrev pub NeedsTold : Bool → Scope → Option Bindings → Type 0
 NeedsTold l xs None = l ≡ true
 NeedsTold l xs (Some m) = FitsBehind xs m
 
@@ -112,21 +110,27 @@ need_more n o l xs None rest h k = or_left o.limit l h
 need_more n o l xs (Some v) None h k = or_right o.limit l k
 need_more n o l xs (Some v) (Some m) h k = one_behind n o.range v xs m h k
 
-needs_told : (name : ℕ → Name) (told : List Outcomes) (found : Found) (qs : List ℕ) → TellsFound told found → NeedsTold (needs_limit told qs) (needs_scope name told qs) (needed_at name found qs)
+pub needs_told : (name : ℕ → Name) (told : List Outcomes) (found : Found) (qs : List ℕ) → TellsFound told found → NeedsTold (needs_limit told qs) (needs_scope name told qs) (needed_at name found qs)
 needs_told name told found [] tells = λ n r o h. h
 needs_told name told found (q ∷ qs) tells = need_more (name q) (told_at told q) (needs_limit told qs) (needs_scope name told qs) (found q) (needed_at name found qs) (tells q) (needs_told name told found qs tells)
 
-decision_by : (l : Bool) (xs : Scope) (b : Boxed Expr Table) (m : Option Bindings) → NeedsTold l xs m → covers (limited l (box_outcomes xs b)) (outcome_from (boxed b) m) ≡ true
-decision_by l xs b None told = or_left l (box_outcomes xs b).limit told
-decision_by l xs b (Some m) told = limited_covers l (box_outcomes xs b) (boxed b m) (box_sound b xs m (fits_alone xs m told))
+decision_by : (l : Bool) (xs : Scope) (b : Boxed Expr Table) (o : Outcomes) (m : Option Bindings) → TellsBox xs b o → NeedsTold l xs m → covers (limited l o) (outcome_from (boxed b) m) ≡ true
+decision_by l xs b o None tells told = or_left l o.limit told
+decision_by l xs b o (Some m) tells told = limited_covers l o (boxed b m) (tells m (fits_alone xs m told))
 
-pub decision_told : (name : ℕ → Name) (told : List Outcomes) (found : Found) (qs : List ℕ) (b : Boxed Expr Table) → TellsFound told found
-    → covers (limited (needs_limit told qs) (box_outcomes (needs_scope name told qs) b)) (outcome_at name found qs (Some b)) ≡ true
-decision_told name told found qs b tells = decision_by (needs_limit told qs) (needs_scope name told qs) b (needed_at name found qs) (needs_told name told found qs tells)
+pub logic_told : (items : List Item) (told : List Outcomes) (item : Item) (b : Boxed Expr Table) (xs : Scope) (l : Bool) (o : Outcomes) → xs ≡ needs_scope (name_at items) told item.needs.items → l ≡ needs_limit told item.needs.items
+    → TellsBox xs b o → option_map logic_view item.logic ≡ Some b → TellsItem items told item (limited l o)
+logic_told items told item b xs l o names limit tells is found known =
+    let qs : List ℕ = item.needs.items in
+    let P : Option (Boxed Expr Table) → Type 0 = λ logic. covers (limited l o) (outcome_at (name_at items) found qs logic) ≡ true in
+    let Q : Scope → Type 0 = λ ys. NeedsTold l ys (needed_at (name_at items) found qs) in
+    let R : Bool → Type 0 = λ k. NeedsTold k (needs_scope (name_at items) told qs) (needed_at (name_at items) found qs) in
+    subst P (sym is) (decision_by l xs b o (needed_at (name_at items) found qs) tells (subst Q (sym names) (subst R (sym limit) (needs_told (name_at items) told found qs known))))
 
-place_by : (name : ℕ → Name) (told : List Outcomes) (found : Found) (qs : List ℕ) (l : Option (Boxed Expr Table)) → TellsFound told found → covers (place_outcomes name told qs l) (outcome_at name found qs l) ≡ true
-place_by name told found qs None tells = refl
-place_by name told found qs (Some b) tells = decision_told name told found qs b tells
+pub input_told : (items : List Item) (told : List Outcomes) (item : Item) → option_map logic_view item.logic ≡ None → TellsItem items told item (given null_alone)
+input_told items told item is found known =
+    let P : Option (Boxed Expr Table) → Type 0 = λ logic. covers (given null_alone) (outcome_at (name_at items) found item.needs.items logic) ≡ true in
+    subst P (sym is) refl
 
 -- ---- the places along
 
@@ -158,31 +162,16 @@ given_sound n domains i (r ∷ rs) (q ∷ qs) (v ∷ vs) told found at within al
     given_sound n domains (suc i) rs qs vs (slice_set told q (domain_at domains i)) (kept_at found q (Is v)) here.1 within.1 (others_inside n q qs all) (count ∙ sym (length_set told q (domain_at domains i))) (omega (arith, same))
     (keep_told told found q (domain_at domains i) (Is v) (omega (arith, count, first_inside n q qs all)) tells (subst P (sym here.0) within.0))
 
-filled_sound : (items : List Item) (qs : List ℕ) (told : List Outcomes) (found : Found) → All (λ p. p < length items) qs → length told ≡ length items → TellsFound told found → TellsFound (filled_told items qs told) (filled_by items qs found)
-filled_sound items [] told found all count tells = tells
-filled_sound items (q ∷ qs) told found all count tells =
-    let o : Outcomes = place_outcomes (name_at items) told (needs_at items q) (logic_at items q) in
-    let p : Outcome = outcome_at (name_at items) found (needs_at items q) (logic_at items q) in
-    filled_sound items qs (slice_set told q o) (kept_at found q p) (others_inside (length items) q qs all) (length_set told q o ∙ count)
-    (keep_told told found q o p (omega (arith, count, first_inside (length items) q qs all)) tells (place_by (name_at items) told found (needs_at items q) (logic_at items q) tells))
-
 pub within_length : (rs : List Range) (vs : List Datum) → AreWithin rs vs → length rs ≡ length vs
 within_length [] [] h = refl
 within_length [] (v ∷ vs) h = absurd h
 within_length (r ∷ rs) [] h = absurd h
 within_length (r ∷ rs) (v ∷ vs) h = ap suc (within_length rs vs h.1)
 
-pub along_sound : (items : List Item) (ps order : List ℕ) (domains : List Range) (start : List Outcomes) (vs : List Datum) → ((q : ℕ) → told_at start q ≡ not_found) → length start ≡ length items → All (λ p. p < length items) ps → All (λ p. p < length items) order
-    → length domains ≡ length ps → AreWithin domains vs → length (given_told domains 0 ps start) ≡ length start → TellsFound (filled_told items order (given_told domains 0 ps start)) (filled_by items order (given_at ps vs nothing_found))
-along_sound items ps order domains start vs none count inside ordered same within kept =
-    filled_sound items order (given_told domains 0 ps start) (given_at ps vs nothing_found) ordered (kept ∙ count)
-    (given_sound (length items) domains 0 domains ps vs start nothing_found refl within inside (sym count) (sym same ∙ within_length domains vs within) (none_told start none))
-
-pub length_filled : (items : List Item) (qs : List ℕ) (told : List Outcomes) → length (filled_told items qs told) ≡ length told
-length_filled items [] told = refl
-length_filled items (q ∷ qs) told =
-    let o : Outcomes = place_outcomes (name_at items) told (needs_at items q) (logic_at items q) in
-    length_filled items qs (slice_set told q o) ∙ length_set told q o
+pub along_sound : (items : List Item) (ps : List ℕ) (domains : List Range) (start : List Outcomes) (vs : List Datum) → ((q : ℕ) → told_at start q ≡ not_found) → length start ≡ length items → All (λ p. p < length items) ps
+    → length domains ≡ length ps → AreWithin domains vs → TellsFound (given_told domains 0 ps start) (given_at ps vs nothing_found)
+along_sound items ps domains start vs none count inside same within =
+    given_sound (length items) domains 0 domains ps vs start nothing_found refl within inside (sym count) (sym same ∙ within_length domains vs within) (none_told start none)
 
 -- ---- the outputs
 
@@ -201,11 +190,11 @@ outputs_told name told found (q ∷ p ∷ qs) tells = many_outputs (name q) (nam
 
 -- ---- the code's loops
 
-pub need_turn : (name : ℕ → Name) (told : List Outcomes) (whole : Scope) (old next : List NamedRange) (qs : List ℕ) (i : ℕ) → whole ≡ scope old ++ needs_scope name told (drop i qs) → i < length qs
-    → scope next ≡ scope old ++ (name (get_or qs i 0), (told_at told (get_or qs i 0)).range) ∷ [] → whole ≡ scope next ++ needs_scope name told (drop (i + 1) qs)
+pub need_turn : (name : ℕ → Name) (told : List Outcomes) (whole old next : Scope) (qs : List ℕ) (i : ℕ) → whole ≡ old ++ needs_scope name told (drop i qs) → i < length qs
+    → next ≡ old ++ (name (get_or qs i 0), (told_at told (get_or qs i 0)).range) ∷ [] → whole ≡ next ++ needs_scope name told (drop (i + 1) qs)
 need_turn name told whole old next qs i so_far more bound =
-    so_far ∙ at_drop_more (λ ps. scope old ++ needs_scope name told ps) qs i 0 more
-    ∙ sym (append_assoc (scope old) ((name (get_or qs i 0), (told_at told (get_or qs i 0)).range) ∷ []) (needs_scope name told (drop (i + 1) qs)))
+    so_far ∙ at_drop_more (λ ps. old ++ needs_scope name told ps) qs i 0 more
+    ∙ sym (append_assoc old ((name (get_or qs i 0), (told_at told (get_or qs i 0)).range) ∷ []) (needs_scope name told (drop (i + 1) qs)))
     ∙ ap (λ zs. zs ++ needs_scope name told (drop (i + 1) qs)) (sym bound)
 
 or_behind : (a b c : Bool) → (a || (b || c)) ≡ ((a || b) || c)
@@ -226,16 +215,37 @@ give_turn domains whole old next qs i o so_far more told kept =
     ∙ ap (λ ts. given_told domains (suc i) (drop (i + 1) qs) ts) (sym kept)
     ∙ ap (λ (n : ℕ). given_told domains n (drop (i + 1) qs) next) (sym (add-one i))
 
-place_here : (items : List Item) (q : ℕ) (x : Item) (told : List Outcomes) → q < length items → x ≡ get_or items q x
-    → place_outcomes (name_at items) told (needs_at items q) (logic_at items q) ≡ place_outcomes (name_at items) told x.needs.items (option_map logic_view x.logic)
-place_here items q x told inside here =
+item_here : (items : List Item) (q : ℕ) (x : Item) (told : List Outcomes) (o : Outcomes) → q < length items → x ≡ get_or items q x → TellsItem items told x o
+    → (found : Found) → TellsFound told found → covers o (outcome_at (name_at items) found (needs_at items q) (logic_at items q)) ≡ true
+item_here items q x told o inside here tells found known =
     let needs : needs_at items q ≡ x.needs.items = get_or-map (λ (y : Item). y.needs.items) items q x _ inside ∙ ap (λ (y : Item). y.needs.items) (sym here) in
     let logic : logic_at items q ≡ option_map logic_view x.logic = get_or-map (λ (y : Item). option_map logic_view y.logic) items q x None inside ∙ ap (λ (y : Item). option_map logic_view y.logic) (sym here) in
-    ap (λ qs. place_outcomes (name_at items) told qs (logic_at items q)) needs ∙ ap (place_outcomes (name_at items) told x.needs.items) logic
+    let P : List ℕ → Type 0 = λ qs. covers o (outcome_at (name_at items) found qs (logic_at items q)) ≡ true in
+    let Q : Option (Boxed Expr Table) → Type 0 = λ l. covers o (outcome_at (name_at items) found x.needs.items l) ≡ true in
+    subst P (sym needs) (subst Q (sym logic) (tells found known))
 
-pub fill_turn : (items : List Item) (whole old next : List Outcomes) (order : List ℕ) (i : ℕ) (x : Item) (o : Outcomes) → whole ≡ filled_told items (drop i order) old → i < length order → get_or order i 0 < length items → x ≡ get_or items (get_or order i 0) x
-    → o ≡ place_outcomes (name_at items) old x.needs.items (option_map logic_view x.logic) → next ≡ slice_set old (get_or order i 0) o → whole ≡ filled_told items (drop (i + 1) order) next
-fill_turn items whole old next order i x o so_far more inside here told kept =
-    so_far ∙ at_drop_more (λ ps. filled_told items ps old) order i 0 more
-    ∙ ap (λ (p : Outcomes). filled_told items (drop (i + 1) order) (slice_set old (get_or order i 0) p)) (place_here items (get_or order i 0) x old inside here ∙ sym told)
-    ∙ ap (filled_told items (drop (i + 1) order)) (sym kept)
+-- what is told once all places are filled, wherever it is once those from one on are
+abbrev pub FilledFrom : List Item → List ℕ → ℕ → List Outcomes → List Outcomes → Type 0
+FilledFrom items order i start told = (more : List Outcomes) → TellsFilled items (drop i order) told more → TellsFilled items order start more
+
+pub filled_begin : (items : List Item) (order : List ℕ) (start : List Outcomes) → FilledFrom items order 0 start start
+filled_begin items order start more rest = rest
+
+inside_told : (q n l : ℕ) → q < n → l ≡ n → q < l
+inside_told q n l inside same = omega (arith, inside, same)
+
+pub filled_turn : (items : List Item) (order : List ℕ) (i : ℕ) (x : Item) (o : Outcomes) (start told next : List Outcomes) → FilledFrom items order i start told → i < length order → get_or order i 0 < length items → length told ≡ length items
+    → x ≡ get_or items (get_or order i 0) x → TellsItem items told x o → next ≡ slice_set told (get_or order i 0) o → FilledFrom items order (i + 1) start next
+filled_turn items order i x o start told next before more inside count here tells kept later rest =
+    before later
+    (λ found known.
+    let q : ℕ = get_or order i 0 in
+    let p : Outcome = outcome_at (name_at items) found (needs_at items q) (logic_at items q) in
+    let P : List ℕ → Type 0 = λ qs. TellsFound later (filled_by items qs found) in
+    let Q : List Outcomes → Type 0 = λ ts. TellsFound ts (kept_at found q p) in
+    subst P (sym (at_drop_more (λ qs. qs) order i 0 more))
+    (rest (kept_at found q p) (subst Q (sym kept) (keep_told told found q o p (inside_told q (length items) (length told) inside count) known (item_here items q x told o inside here tells found known)))))
+
+pub filled_done : (items : List Item) (order : List ℕ) (i : ℕ) (start told : List Outcomes) → FilledFrom items order i start told → length order ≤ i → TellsFilled items order start told
+filled_done items order i start told before done =
+    before told (λ found known. (let P : List ℕ → Type 0 = λ qs. TellsFound told (filled_by items qs found) in subst P (sym (drop_all i order done)) known))

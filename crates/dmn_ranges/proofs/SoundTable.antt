@@ -1,14 +1,13 @@
 -- What is told of a table holds of its result.
-use Rattle.std.proofs.Common.{◌≡◌, ◌∙◌, refl, sym, ap, subst, ℕ, suc, ◌+◌, ◌≤◌, ℤ, pos, ◌+ℤ◌, List, [], ◌∷◌, length, nat_eq, Bool, true, false, ◌&&◌, ◌||◌, Option, None, Some, option_map, if◌then◌else◌, arith, cond}
+use Rattle.std.proofs.Common.{◌≡◌, ◌∙◌, refl, sym, ap, subst, ℕ, suc, ◌+◌, ◌≤◌, ℤ, pos, ◌+ℤ◌, List, [], ◌∷◌, length, Bool, true, false, ◌&&◌, ◌||◌, Option, None, Some, option_map, if◌then◌else◌, arith, cond}
 use Rattle.std.specs.Prelude.{int_le, int_lt}
 use Rattle.std.specs.Int.{int_min, int_max}
 use Rattle.std.specs.List.{fold, list_all}
 use Rattle.std.proofs.lemmas.Int.{ints}
 use Rattle.feel_value.proofs.Laws.{equal_itself}
 use Rattle.feel_value.specs.Comparison.{equal}
-use Rattle.feel_value.specs.Datum.{Datum, null, boolean, number, text, list, context, Items, items_of}
+use Rattle.feel_value.specs.Datum.{Datum, null, boolean, number, text, list, context, items_of}
 use Rattle.feel_value.specs.Found.{◌>>=◌, each, outcome_from}
-use Rattle.feel_value.specs.Limits.{is_value}
 use Rattle.feel_value.specs.Logic.{is_yes}
 use Rattle.feel_value.specs.Outcome.{held}
 use Rattle.feel_text.specs.Meaning.{Bindings}
@@ -19,11 +18,12 @@ use Rattle.dmn_table.specs.Result.{only_one, first_of, common_one, numbers_of, s
 use Rattle.dmn_table.specs.Table.{Column, Rule, Table}
 use Rattle.dmn_table.specs.declared.hit_policy.HitPolicy.{HitPolicy}
 use Rattle.dmn_table.specs.declared.hit_policy.HitPolicy.TheVariants.{Unique, Any, Priority, First, OutputOrder, RuleOrder, Collect, Sum, Least, Greatest, Count}
+use Rattle.dmn_ranges.specs.Asking.{Narrows}
 use Rattle.dmn_ranges.specs.Numbers.{bounded}
 use Rattle.dmn_ranges.specs.Ranges.{Scope, Fits, within, lies_in, covers, null_alone}
-use Rattle.dmn_ranges.specs.Steps.{is_other, either_outcomes, when, numbers_given, size_of, listed}
+use Rattle.dmn_ranges.specs.Steps.{outcomes, is_other, either_outcomes, when, numbers_given, size_of, listed}
 use Rattle.dmn_ranges.specs.Sizes.{times}
-use Rattle.dmn_ranges.specs.Tables.{null_if, any_sum, within_bounds, summed, by_policy, shape_of, default_outcomes, column_outcomes, some_limit, tally_rules, with_tally, table_outcomes}
+use Rattle.dmn_ranges.specs.Tables.{null_if, any_sum, within_bounds, summed, by_policy, shape_of, default_outcomes, column_outcomes, some_limit, tally_rules, with_tally}
 use Rattle.dmn_ranges.specs.declared.interval.Interval.{Interval}
 use Rattle.dmn_ranges.specs.declared.outcomes.Outcomes.{Outcomes}
 use Rattle.dmn_ranges.specs.declared.range.Range.{Range}
@@ -34,6 +34,7 @@ use Rattle.dmn_ranges.proofs.Sizes.{list_covers, along_right}
 use Rattle.dmn_ranges.proofs.Walks.{same_length}
 use Rattle.dmn_ranges.proofs.Intervals.{bounded_met, low_of, high_of, number_in_all}
 use Rattle.dmn_ranges.proofs.Joins.{or_left, or_right, and_both, other_in}
+use Rattle.dmn_ranges.proofs.SoundAsking.{narrowed_told}
 use Rattle.dmn_ranges.proofs.SoundRules.{InputsTold, inputs_told, gives_told, defaults_told}
 use Rattle.dmn_ranges.proofs.SoundTallies.{Tells, FoundTold, rules_told, hits_among, outputs_of_hits, total_of, sums_to, several_told}
 
@@ -295,18 +296,36 @@ same_hits : (m : Bindings) (cs : List Column) (rs : List Rule) (ys : Option (Lis
 same_hits m cs rs None = refl
 same_hits m cs rs (Some zs) = refl
 
-from_values : (t : Table) (xs : Scope) (m : Bindings) → Fits xs m → (values : Option (List Datum)) → InputsTold (column_outcomes xs t.inputs) values
-    → covers (table_outcomes xs t) (outcome_from (result_from t m) ((values >>= λ vs. each (does_hit m vs) t.rules >>= λ answers. Some (kept t.rules answers)) >>= λ rules. each (hit_of t.outputs m) rules)) ≡ true
-from_values t xs m f None told =
-    let s : Tally = tally_rules (shape_of t.outputs) (column_outcomes xs t.inputs) xs t.rules in
+from_values : (t : Table) (xs : Scope) (m : Bindings) → Fits xs m → (s : Tally) → Narrows t.rules (column_outcomes xs t.inputs) (tally_rules (shape_of t.outputs) (column_outcomes xs t.inputs) xs t.rules) s
+    → (values : Option (List Datum)) → InputsTold (column_outcomes xs t.inputs) values
+    → covers (with_tally t xs (some_limit (column_outcomes xs t.inputs)) s)
+    (outcome_from (result_from t m) ((values >>= λ vs. each (does_hit m vs) t.rules >>= λ answers. Some (kept t.rules answers)) >>= λ rules. each (hit_of t.outputs m) rules)) ≡ true
+from_values t xs m f s narrows None told =
     or_left (some_limit (column_outcomes xs t.inputs) || s.limit) (either_outcomes (when s.may_be_some (by_policy t.policy s (length t.rules))) (when s.may_be_none (default_outcomes (shape_of t.outputs).distinct xs t.outputs))).limit
     (or_left (some_limit (column_outcomes xs t.inputs)) s.limit told)
-from_values t xs m f (Some vs) told =
-    let P : Option (List Hit) → Type 0 = λ found. covers (table_outcomes xs t) (outcome_from (result_from t m) found) ≡ true in
+from_values t xs m f s narrows (Some vs) told =
+    let P : Option (List Hit) → Type 0 = λ found. covers (with_tally t xs (some_limit (column_outcomes xs t.inputs)) s) (outcome_from (result_from t m) found) ≡ true in
+    let whole : Tally = tally_rules (shape_of t.outputs) (column_outcomes xs t.inputs) xs t.rules in
     subst P (same_hits m t.outputs t.rules (each (does_hit m vs) t.rules))
-    (result_told t xs m f (some_limit (column_outcomes xs t.inputs)) (tally_rules (shape_of t.outputs) (column_outcomes xs t.inputs) xs t.rules) (hits_among m vs t.outputs t.rules)
-    (rules_told (shape_of t.outputs) (column_outcomes xs t.inputs) vs t.outputs xs m f told (λ r. gives_told t.outputs r xs m f) t.rules)
+    (result_told t xs m f (some_limit (column_outcomes xs t.inputs)) s (hits_among m vs t.outputs t.rules)
+    (narrowed_told t.rules t.outputs (column_outcomes xs t.inputs) m vs whole s narrows told
+    (rules_told (shape_of t.outputs) (column_outcomes xs t.inputs) vs t.outputs xs m f told (λ r. gives_told t.outputs r xs m f) t.rules))
     (λ hs e. hits_short m t.outputs t.rules (each (does_hit m vs) t.rules) hs e))
 
-pub table_sound : (t : Table) (xs : Scope) (m : Bindings) → Fits xs m → covers (table_outcomes xs t) (table_result t m) ≡ true
-table_sound t xs m f = from_values t xs m f (values_of m t.inputs) (inputs_told t.inputs xs m f)
+pub table_sound : (t : Table) (xs : Scope) (s : Tally) → Narrows t.rules (column_outcomes xs t.inputs) (tally_rules (shape_of t.outputs) (column_outcomes xs t.inputs) xs t.rules) s → (m : Bindings) → Fits xs m
+    → covers (with_tally t xs (some_limit (column_outcomes xs t.inputs)) s) (table_result t m) ≡ true
+table_sound t xs s narrows m f = from_values t xs m f s narrows (values_of m t.inputs) (inputs_told t.inputs xs m f)
+
+-- the same of what the code has
+pub table_told : (t : Table) (xs : Scope) (os ps qs : List Outcomes) (whole found : Tally) (l : Bool) (o : Outcomes) → os ≡ column_outcomes xs t.inputs → ps ≡ os → qs ≡ os → whole ≡ tally_rules (shape_of t.outputs) os xs t.rules
+    → (length ps ≡ length t.inputs → Narrows t.rules ps whole found) → l ≡ some_limit qs → o ≡ with_tally t xs l found → (m : Bindings) → Fits xs m → covers o (table_result t m) ≡ true
+table_told t xs os ps qs whole found l o columns first second tally narrows limit is m f =
+    let here : ps ≡ column_outcomes xs t.inputs = first ∙ columns in
+    let long : length ps ≡ length t.inputs = ap length here ∙ same_length (λ e. outcomes e xs) t.inputs in
+    let N : List Outcomes → Type 0 = λ cs. Narrows t.rules cs whole found in
+    let W : Tally → Type 0 = λ w. Narrows t.rules (column_outcomes xs t.inputs) w found in
+    let P : Outcomes → Type 0 = λ p. covers p (table_result t m) ≡ true in
+    let Q : Bool → Type 0 = λ b. covers (with_tally t xs b found) (table_result t m) ≡ true in
+    subst P (sym is)
+    (subst Q (sym (limit ∙ ap some_limit (second ∙ columns)))
+    (table_sound t xs found (subst W (tally ∙ ap (λ cs. tally_rules (shape_of t.outputs) cs xs t.rules) columns) (subst N here (narrows long))) m f))

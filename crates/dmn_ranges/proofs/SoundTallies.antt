@@ -11,6 +11,7 @@ use Rattle.dmn_table.specs.Hits.{does_hit, kept, hit_of}
 use Rattle.dmn_table.specs.Priority.{Hit}
 use Rattle.dmn_table.specs.Result.{number_in}
 use Rattle.dmn_table.specs.Table.{Column, Rule}
+use Rattle.dmn_ranges.specs.Asking.{AllIn}
 use Rattle.dmn_ranges.specs.Numbers.{sum}
 use Rattle.dmn_ranges.specs.Ranges.{Scope, Fits, inside, within, lies_in, covers}
 use Rattle.dmn_ranges.specs.Tables.{or_zero, zero_alone, share, unless_past, plus, joined_if, blank, tally_with, tally_rule, tally_rules, rule_hits, rule_gives}
@@ -24,7 +25,7 @@ use Rattle.dmn_ranges.specs.declared.tally.Tally.{Tally}
 use Rattle.dmn_ranges.proofs.Forms.{joined_one, joined_other}
 use Rattle.dmn_ranges.proofs.Intervals.{Met, sum_met, le_trans, low_of, high_of, least_one, least_other, greatest_one, greatest_other}
 use Rattle.dmn_ranges.proofs.Joins.{or_left, or_right, and_both}
-use Rattle.dmn_ranges.proofs.SoundRules.{AllIn, becomes, output_in, rule_told}
+use Rattle.dmn_ranges.proofs.SoundRules.{becomes, output_in, rule_told}
 
 -- ---- sums
 

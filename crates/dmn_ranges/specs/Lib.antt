@@ -7,6 +7,9 @@ pub mod Entries
 pub mod Domains
 pub mod Constraints
 pub mod Tables
+pub mod Asking
 pub mod Boxes
 pub mod Services
 pub mod Decisions
+pub mod Columns
+pub mod Names

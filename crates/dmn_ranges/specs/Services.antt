@@ -1,18 +1,16 @@
 -- Internal but for `not_found` and `told_at`: what is told of the places of a plan, one after another, each from what is told of those that it needs.
-use Rattle.std.specs.Prelude.{◌≡◌, ℕ, suc, List, [], ◌∷◌, map, Bool, true, Option, None, Some, unwrap_or, slice_set}
+use Rattle.std.specs.Prelude.{◌≡◌, ℕ, suc, List, [], ◌∷◌, map, Bool, true, Option, None, Some, option_map, unwrap_or, slice_set}
 use Rattle.std.specs.List.{list_any, slice_get}
 use Rattle.feel_value.specs.Found.{outcome_from}
 use Rattle.feel_value.specs.declared.feel.Outcome.TheVariants.{Is}
-use Rattle.feel_text.specs.Expr.{Expr}
-use Rattle.dmn_table.specs.Table.{Table}
-use Rattle.dmn_form.specs.Model.{Name, Boxed}
-use Rattle.dmn_service.specs.Places.{name_at, needs_at}
-use Rattle.dmn_service.specs.Run.{Found, logic_at}
+use Rattle.dmn_form.specs.Model.{Name}
+use Rattle.dmn_logic.specs.LogicView.{logic_view}
+use Rattle.dmn_service.specs.Places.{name_at}
+use Rattle.dmn_service.specs.Run.{Found, outcome_at, filled_by}
 use Rattle.dmn_service.specs.declared.plan.Item.{Item}
-use Rattle.dmn_ranges.specs.Ranges.{Scope, covers, null_alone}
-use Rattle.dmn_ranges.specs.Steps.{nothing, given, limited}
+use Rattle.dmn_ranges.specs.Ranges.{Scope, covers}
+use Rattle.dmn_ranges.specs.Steps.{nothing, given}
 use Rattle.dmn_ranges.specs.Tables.{some_context}
-use Rattle.dmn_ranges.specs.Boxes.{box_outcomes}
 use Rattle.dmn_ranges.specs.declared.outcomes.Outcomes.{Outcomes}
 use Rattle.dmn_ranges.specs.declared.range.Range.{Range}
 
@@ -48,15 +46,13 @@ needs_scope name told qs = map (λ q. (name q, (told_at told q).range)) qs
 abbrev pub needs_limit : List Outcomes → List ℕ → Bool
 needs_limit told qs = list_any (λ q. (told_at told q).limit) qs
 
--- what a decision's logic can give, from what is told of its needs; an input has none of its own
-abbrev pub place_outcomes : (ℕ → Name) → List Outcomes → List ℕ → Option (Boxed Expr Table) → Outcomes
-place_outcomes name told needs None = given null_alone
-place_outcomes name told needs (Some b) = limited (needs_limit told needs) (box_outcomes (needs_scope name told needs) b)
+-- what is told of an item holds of its outcome, wherever what is told of the places that it needs holds
+abbrev pub TellsItem : List Item → List Outcomes → Item → Outcomes → Type 0
+TellsItem items told item o = (found : Found) → TellsFound told found → covers o (outcome_at (name_at items) found item.needs.items (option_map logic_view item.logic)) ≡ true
 
--- these places, one after another, each from what was told before
-abbrev pub filled_told : List Item → List ℕ → List Outcomes → List Outcomes
-filled_told items [] told = told
-filled_told items (q ∷ qs) told = filled_told items qs (slice_set told q (place_outcomes (name_at items) told (needs_at items q) (logic_at items q)))
+-- where what was told of the places holds, what is told then holds once these places are filled
+abbrev pub TellsFilled : List Item → List ℕ → List Outcomes → List Outcomes → Type 0
+TellsFilled items order told more = (found : Found) → TellsFound told found → TellsFound more (filled_by items order found)
 
 -- the value of the one output, or the context of all
 abbrev pub outputs_outcomes : List Outcomes → List ℕ → Outcomes

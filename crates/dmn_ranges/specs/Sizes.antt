@@ -1,5 +1,5 @@
 -- How large values are: internal but for the size itself. A size is past where a list or a context of such parts can break a limit.
-use Rattle.std.specs.Prelude.{ℕ, ◌+◌, ◌*◌, Bool, not, ◌&&◌, nat_lt, if◌then◌else◌}
+use Rattle.std.specs.Prelude.{ℕ, ◌+◌, ◌*◌, Bool, ◌&&◌, nat_lt, if◌then◌else◌}
 use Rattle.feel_value.specs.Limits.{most_nodes, most_depth}
 use Rattle.dmn_ranges.specs.declared.size.Size.{Size}
 

@@ -172,7 +172,3 @@ some_limit os = list_any (λ o. o.limit) os
 
 abbrev pub with_tally : Table → Scope → Bool → Tally → Outcomes
 with_tally t xs l s = limited (l || s.limit) (either_outcomes (when s.may_be_some (by_policy t.policy s (length t.rules))) (when s.may_be_none (default_outcomes (shape_of t.outputs).distinct xs t.outputs)))
-
-abbrev pub table_outcomes : Scope → Table → Outcomes
-table_outcomes xs t =
-    with_tally t xs (some_limit (column_outcomes xs t.inputs)) (tally_rules (shape_of t.outputs) (column_outcomes xs t.inputs) xs t.rules)

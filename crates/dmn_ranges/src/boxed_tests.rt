@@ -29,7 +29,7 @@ fn hold(rt: &impl Abort, alloc: Global, rows: &[Row]) -> Result<(), Fail> {
     for (written, result, want) in rows {
         let last = Box::new(alloc, Logic::Expression(read_expr(alloc, result)?))?;
         let logic = Logic::ContextWith(entries(alloc, written)?, last);
-        let got = words(alloc, range_of_logic(alloc, &logic, &names)?)?;
+        let got = words(alloc, range_of_logic(alloc, &logic, &names, 100_000)?)?;
         assert_eq!(rt; (*result, got.as_str()), (*result, *want));
     }
     Ok(())
@@ -56,10 +56,10 @@ fn parts_of_unknown_size(rt: HostRuntime) -> Result<(), Fail> {
     let alloc = rt.alloc();
     let names = names(alloc)?;
     let list = Logic::List(Vec::new(alloc));
-    let told = words(alloc, range_of_logic(alloc, &list, &names)?)?;
+    let told = words(alloc, range_of_logic(alloc, &list, &names, 100_000)?)?;
     assert_eq!(&rt; told.as_str(), "list ");
     let context = Logic::Context(Vec::new(alloc));
-    let told = words(alloc, range_of_logic(alloc, &context, &names)?)?;
+    let told = words(alloc, range_of_logic(alloc, &context, &names, 100_000)?)?;
     assert_eq!(&rt; told.as_str(), "context limit ");
     Ok(())
 }

@@ -11,19 +11,21 @@ ghost use Rattle.dmn_ranges.specs.Ranges.{lies_in};
 use crate::comparison::is_not_null;
 use crate::expression::outcomes;
 use crate::interval::{Interval, higher, lower};
+use crate::names::Names;
 use crate::range::{Range, both, either, every_number, joined};
 use crate::size::Size;
 use crate::texts::Texts;
 use feel_text::{Bound, Test, Tests, TestsTree, Tree, high_end, low_end};
+use std::alloc::Global;
 
 /// The values of a domain that unary tests describe.
 ///
 /// Each value that satisfies the tests lies in the range that is answered. A name in them stands for null.
 #[tactic(auto, using(crate::proofs::SoundDomains::domain_sound))]
-pub fn range_of_domain(tests: &Tests) -> Range
+pub fn range_of_domain(alloc: Global, tests: &Tests) -> Range
     ensures { (d : Datum) → is_value d ≡ true → meets tests.now d ≡ true → lies_in result d ≡ true }
 {
-    values_of(tests)
+    values_of(alloc, tests)
 }
 
 // The numbers that stand so to some number of these.
@@ -128,68 +130,69 @@ fn equal_values(range: Range) -> Range
 }
 
 // What an expression can give in which each name stands for null.
-fn alone(expr: &Tree) -> Range
+fn alone(alloc: Global, expr: &Tree) -> Range
     ensures { result ≡ alone_of (view expr.now) }
 {
-    outcomes(expr, &[]).range
+    let names = Names::new(alloc);
+    outcomes(expr, &names).range
 }
 
 // The values that satisfy a test.
-fn test_values(test: &Test) -> Range
+fn test_values(alloc: Global, test: &Test) -> Range
     ensures { result ≡ test_values_of (test_view test.now) }
 {
     match test {
-        Test::Compares(bound, expr) => compared_values(*bound, alone(expr)),
+        Test::Compares(bound, expr) => compared_values(*bound, alone(alloc, expr)),
         Test::Interval(closed_low, low, high, closed_high) => {
             let (above, below) = (low_end(*closed_low), high_end(*closed_high));
-            between_values(above, alone(low), below, alone(high))
+            between_values(above, alone(alloc, low), below, alone(alloc, high))
         }
-        Test::Equals(expr) => equal_values(alone(expr)),
+        Test::Equals(expr) => equal_values(alone(alloc, expr)),
     }
 }
 
 // Those too that satisfy one test more.
-fn with_test(range: Range, test: &Test) -> Range
+fn with_test(alloc: Global, range: Range, test: &Test) -> Range
     ensures { result ≡ with_test_of range (test_view test.now) }
 {
-    joined(range, test_values(test))
+    joined(range, test_values(alloc, test))
 }
 
 // The values that satisfy one of the tests.
-fn any_values(tests: &[Test]) -> Range
+fn any_values(alloc: Global, tests: &[Test]) -> Range
     ensures { result ≡ any_values_of (map test_view tests.now) }
 {
     let mut range = Range::nothing();
     for test in tests {
-        range = with_test(range, test);
+        range = with_test(alloc, range, test);
     }
     range
 }
 
 // Whether null is the only value that satisfies the test.
-fn is_of_null(test: &Test) -> bool
+fn is_of_null(alloc: Global, test: &Test) -> bool
     ensures { result ≡ is_of_null_of (test_view test.now) }
 {
     match test {
-        Test::Equals(expr) => !is_not_null(alone(expr)),
+        Test::Equals(expr) => !is_not_null(alone(alloc, expr)),
         Test::Compares(_, _) | Test::Interval(_, _, _, _) => false,
     }
 }
 
 // Whether this is so, or null is the only value that satisfies one test more.
-fn or_null(null: bool, test: &Test) -> bool
+fn or_null(alloc: Global, null: bool, test: &Test) -> bool
     ensures { result ≡ or_null_of null (test_view test.now) }
 {
-    either(null, is_of_null(test))
+    either(null, is_of_null(alloc, test))
 }
 
 // Whether null is the only value that satisfies some test.
-fn has_null(tests: &[Test]) -> bool
+fn has_null(alloc: Global, tests: &[Test]) -> bool
     ensures { result ≡ has_null_of (map test_view tests.now) }
 {
     let mut null = false;
     for test in tests {
-        null = or_null(null, test);
+        null = or_null(alloc, null, test);
     }
     null
 }
@@ -211,12 +214,12 @@ fn anything_but(null: bool) -> Range
 }
 
 // The values that satisfy tests.
-fn values_of(tests: &Tests) -> Range
+fn values_of(alloc: Global, tests: &Tests) -> Range
     ensures { result ≡ domain_values tests.now }
 {
     match tests.tree() {
         TestsTree::Any => Range::any(),
-        TestsTree::OneOf(tests) => any_values(tests),
-        TestsTree::NoneOf(tests) => anything_but(has_null(tests)),
+        TestsTree::OneOf(tests) => any_values(alloc, tests),
+        TestsTree::NoneOf(tests) => anything_but(has_null(alloc, tests)),
     }
 }

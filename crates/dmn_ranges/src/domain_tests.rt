@@ -59,7 +59,7 @@ fn domains_have_their_values(rt: HostRuntime) -> Result<(), Fail> {
     let alloc = rt.alloc();
     for (text, want) in DOMAINS {
         let tests = read_tests(alloc, text)?;
-        let got = words(alloc, Outcomes::given(range_of_domain(&tests)))?;
+        let got = words(alloc, Outcomes::given(range_of_domain(alloc, &tests)))?;
         assert_eq!(&rt; (*text, got.as_str()), (*text, *want));
     }
     Ok(())

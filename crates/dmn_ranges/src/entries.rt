@@ -2,13 +2,13 @@
 ghost use Rattle.std.specs.Prelude.{◌≡◌, map};
 ghost use Rattle.feel_text.specs.TestsView.{bound_view, test_view};
 ghost use Rattle.feel_text.specs.View.{view};
-ghost use Rattle.dmn_ranges.specs.Ranges.{scope};
 ghost use Rattle.dmn_ranges.specs.Entries.{stands as stands_of, among as among_of, compared as compared_of, test_answers as test_answers_of, always as always_answers, never as never_answers, both_answers, or_test as or_test_of, any_answers as any_answers_of, opposite_answers as opposite_of_answers, entry_answers as entry_answers_of};
 ghost use Rattle.dmn_ranges.specs.Steps.{outcomes as outcomes_of, and_truths as and_of_truths, or_truths as or_of_truths};
 
 use crate::comparison::{equal_truths, less_truths};
 use crate::expression::outcomes;
-use crate::range::{NamedRange, Range, either};
+use crate::names::Names;
+use crate::range::{Range, either};
 use crate::truths::{Truths, and_truths, opposite, or_truths};
 use feel_text::{Bound, Test, Tests, TestsTree, Tree, high_end, low_end};
 
@@ -104,8 +104,8 @@ fn among(value: Range, other: Range) -> Truths
 }
 
 // Whether a value stands so to that of an expression.
-fn compared(bound: Bound, value: Range, expr: &Tree, names: &[NamedRange]) -> Answers
-    ensures { result ≡ compared_of (bound_view bound) value (outcomes_of (view expr.now) (scope names.now)) }
+fn compared(bound: Bound, value: Range, expr: &Tree, names: &Names) -> Answers
+    ensures { result ≡ compared_of (bound_view bound) value (outcomes_of (view expr.now) names.now) }
 {
     let other = outcomes(expr, names);
     Answers {
@@ -115,8 +115,8 @@ fn compared(bound: Bound, value: Range, expr: &Tree, names: &[NamedRange]) -> An
 }
 
 // What one test answers.
-fn test_answers(test: &Test, value: Range, names: &[NamedRange]) -> Answers
-    ensures { result ≡ test_answers_of value (scope names.now) (test_view test.now) }
+fn test_answers(test: &Test, value: Range, names: &Names) -> Answers
+    ensures { result ≡ test_answers_of value names.now (test_view test.now) }
 {
     match test {
         Test::Compares(bound, expr) => compared(*bound, value, expr, names),
@@ -136,15 +136,15 @@ fn test_answers(test: &Test, value: Range, names: &[NamedRange]) -> Answers
 }
 
 // Whether this is so, or one test more is met.
-fn or_test(answers: Answers, test: &Test, value: Range, names: &[NamedRange]) -> Answers
-    ensures { result ≡ or_test_of value (scope names.now) answers (test_view test.now) }
+fn or_test(answers: Answers, test: &Test, value: Range, names: &Names) -> Answers
+    ensures { result ≡ or_test_of value names.now answers (test_view test.now) }
 {
     answers.or(test_answers(test, value, names))
 }
 
 // Whether one of the tests is met.
-fn any_answers(tests: &[Test], value: Range, names: &[NamedRange]) -> Answers
-    ensures { result ≡ any_answers_of value (scope names.now) (map test_view tests.now) }
+fn any_answers(tests: &[Test], value: Range, names: &Names) -> Answers
+    ensures { result ≡ any_answers_of value names.now (map test_view tests.now) }
 {
     let mut answers = Answers::never();
     for test in tests {
@@ -154,8 +154,8 @@ fn any_answers(tests: &[Test], value: Range, names: &[NamedRange]) -> Answers
 }
 
 /// What an input entry answers of a value.
-pub(crate) fn entry_answers(entry: &Tests, value: Range, names: &[NamedRange]) -> Answers
-    ensures { result ≡ entry_answers_of value (scope names.now) entry.now }
+pub(crate) fn entry_answers(entry: &Tests, value: Range, names: &Names) -> Answers
+    ensures { result ≡ entry_answers_of value names.now entry.now }
 {
     match entry.tree() {
         TestsTree::Any => Answers::always(),

@@ -1,5 +1,5 @@
 //! What an expression can give.
-ghost use Rattle.std.specs.Prelude.{◌≡◌, true, []};
+ghost use Rattle.std.specs.Prelude.{◌≡◌, true, [], IfOk};
 ghost use Rattle.feel_text.specs.Constants.{expr_of_constant};
 ghost use Rattle.feel_text.specs.Meaning.{Bindings, den};
 ghost use Rattle.feel_text.specs.View.{view, views};
@@ -9,26 +9,33 @@ ghost use Rattle.dmn_ranges.specs.Steps.{natural as natural_of, outcomes as outc
 use crate::calls::{called, paths};
 use crate::comparison::{between, inverted, operated};
 use crate::interval::Interval;
+use crate::names::Names;
 use crate::numbers::{negated, remainders};
 use crate::outcomes::{Outcomes, either_of, when};
 use crate::parts::Parts;
-use crate::range::{NamedRange, Range, either, named};
+use crate::range::{NamedRange, Range, either};
 use crate::size::Size;
 use crate::texts::Texts;
 use crate::truths::{Truths, truths_in};
 use feel_text::{Constant, Expr, Tree};
 use feel_value::Value;
+use std::alloc::{AllocError, Global};
 
 /// What an expression can give, where each name stands for a value of its range.
 ///
 /// Whatever values of their ranges the names have, its value lies in the range that is answered; and where a limit is broken, the
 /// answer says that it can be. A name that isn't among them stands for null. The steps are in proportion to the size of the
-/// expression, times the number of names.
+/// expression and to the number of names, times the logarithm of that.
 #[tactic(auto, using(crate::proofs::Sound::sound))]
-pub fn range_of_expression(expr: &Tree, names: &[NamedRange]) -> Outcomes
-    ensures { (m : Bindings) → Fits (scope names.now) m → covers result (den (view expr.now) m) ≡ true }
+pub fn range_of_expression(
+    alloc: Global,
+    expr: &Tree,
+    names: &[NamedRange],
+) -> Result<Outcomes, AllocError>
+    ensures { IfOk result (λ o. (m : Bindings) → Fits (scope names.now) m → covers o (den (view expr.now) m) ≡ true) }
 {
-    outcomes(expr, names)
+    let names = Names::listed(alloc, names)?;
+    Ok(outcomes(expr, &names))
 }
 
 // One number.
@@ -80,16 +87,16 @@ fn branches(test: Truths, a: Outcomes, b: Outcomes) -> Outcomes
 }
 
 /// What an expression can give.
-pub(crate) fn expr_outcomes(expr: &Expr, names: &[NamedRange]) -> Outcomes
-    ensures { result ≡ outcomes_of expr.now (scope names.now) }
+pub(crate) fn expr_outcomes(expr: &Expr, names: &Names) -> Outcomes
+    ensures { result ≡ outcomes_of expr.now names.now }
 {
     outcomes(expr.tree(), names)
 }
 
 // The members of a list.
 #[cycle(outcomes)]
-fn members(exprs: &[Tree], names: &[NamedRange]) -> Parts
-    ensures { result ≡ members_parts no_parts (views exprs.now) (scope names.now) }
+fn members(exprs: &[Tree], names: &Names) -> Parts
+    ensures { result ≡ members_parts no_parts (views exprs.now) names.now }
 {
     let mut parts = Parts::none();
     for expr in exprs {
@@ -99,13 +106,13 @@ fn members(exprs: &[Tree], names: &[NamedRange]) -> Parts
 }
 
 #[cycle(outcomes)]
-pub(crate) fn outcomes(expr: &Tree, names: &[NamedRange]) -> Outcomes
-    ensures { result ≡ outcomes_of (view expr.now) (scope names.now) }
+pub(crate) fn outcomes(expr: &Tree, names: &Names) -> Outcomes
+    ensures { result ≡ outcomes_of (view expr.now) names.now }
 {
     match expr {
         Tree::Constant(literal) => constant(literal),
         Tree::Number(n) => natural(*n),
-        Tree::Name(reference) => Outcomes::given(named(reference.name.as_str(), names)),
+        Tree::Name(reference) => Outcomes::given(names.range(reference.name.as_str())),
         Tree::Group(inner) => outcomes(inner, names),
         Tree::List(exprs) => members(exprs, names).list(),
         Tree::Call(function, argument) => {

@@ -2,11 +2,14 @@
 //! sets that are said.
 #![tactic(auto)]
 
+mod analysed;
+mod asking;
 mod bounded;
 mod boxed;
 #[cfg(test)]
 mod boxed_tests;
 mod calls;
+mod columns;
 mod comparison;
 mod domain;
 #[cfg(test)]
@@ -14,6 +17,7 @@ mod domain_tests;
 mod entries;
 mod expression;
 mod interval;
+mod names;
 mod numbers;
 mod outcomes;
 mod parts;
@@ -29,8 +33,11 @@ mod tally;
 mod tests;
 mod texts;
 mod truths;
+mod wider;
 
+pub use asking::columns_asked;
 pub use boxed::range_of_logic;
+pub use columns::{ToldTables, columns_of_service};
 pub use domain::range_of_domain;
 pub use expression::range_of_expression;
 pub use interval::Interval;
@@ -42,3 +49,4 @@ pub use service::{
 pub use size::Size;
 pub use table::range_of_table;
 pub use texts::{Texts, Word};
+pub use wider::either_tables;

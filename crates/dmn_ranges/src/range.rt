@@ -1,7 +1,6 @@
 //! Sets of values.
-ghost use Rattle.std.specs.Prelude.{◌≡◌, ◌&&◌, ◌||◌, Some, None, bytes_eq, if◌then◌else◌};
-ghost use Rattle.std.specs.Arc.{arc_str_bytes};
-ghost use Rattle.dmn_ranges.specs.Ranges.{range_named, null_alone, scope};
+ghost use Rattle.std.specs.Prelude.{◌≡◌, ◌&&◌, ◌||◌, Some, None};
+ghost use Rattle.dmn_ranges.specs.Ranges.{null_alone};
 ghost use Rattle.dmn_ranges.specs.Steps.{nothing as no_value, anything, everything, joined as joined_of, is_other as is_other_of, any_of_size as any_of_size_of, lists_of as lists_of_size, contexts_of as contexts_of_size, is_other_than_text as is_other_than_text_of, is_other_than_list as is_other_than_list_of, are_numbers as are_numbers_of, size_of as size_of_range, text_alone, numbers_or_null as numbers_or_null_of};
 
 use crate::interval::{Interval, hull};
@@ -204,8 +203,8 @@ pub(crate) fn every_number() -> Option<Interval>
     })
 }
 
-// Whether each number is one of the range of numbers.
-fn are_numbers(numbers: Option<Interval>) -> bool
+/// Whether each number is one of the range of numbers.
+pub(crate) fn are_numbers(numbers: Option<Interval>) -> bool
     ensures { result ≡ are_numbers_of numbers }
 {
     match numbers {
@@ -227,27 +226,5 @@ pub(crate) fn joined(a: Range, b: Range) -> Range
         lists: either(a.lists, b.lists),
         contexts: either(a.contexts, b.contexts),
         size: a.size.larger(b.size),
-    }
-}
-
-/// What a name stands for: what the last of its name says; null where it has none.
-pub(crate) fn named(name: &str, names: &[NamedRange]) -> Range
-    ensures { result ≡ range_named (scope names.now) name.now }
-{
-    let mut range = Range::null();
-    for entry in names {
-        range = chosen(name, entry, range);
-    }
-    range
-}
-
-// The range of the entry, if it has this name, and otherwise the other one.
-fn chosen(name: &str, entry: &NamedRange, other: Range) -> Range
-    ensures { result ≡ (if bytes_eq name.now (arc_str_bytes entry.now.name) then entry.now.range else other) }
-{
-    if name == entry.name.as_str() {
-        entry.range
-    } else {
-        other
     }
 }

@@ -1,22 +1,22 @@
 //! What the decisions of a service can give, and the service itself, for inputs within their domains.
-ghost use Rattle.std.specs.Prelude.{◌≡◌, ◌<◌, ℕ, IfOk, OnOk, List, length, true, option_map, slice_set};
+ghost use Rattle.std.specs.Prelude.{◌≡◌, ◌<◌, ℕ, IfOk, OnOk, List, length, true, slice_set};
 ghost use Rattle.std.specs.List.{All, zip};
 ghost use Rattle.feel_text.specs.Expr.{Expr as ExprData};
 ghost use Rattle.feel_value.specs.Datum.{Datum};
 ghost use Rattle.dmn_form.specs.Model.{Model, Service};
-ghost use Rattle.dmn_logic.specs.LogicView.{logic_view};
 ghost use Rattle.dmn_service.specs.Decision.{parameters_of, service_result};
 ghost use Rattle.dmn_service.specs.Places.{name_at};
 ghost use Rattle.dmn_service.specs.Plan.{HasPlacesWithin, IsPlanOf};
 ghost use Rattle.dmn_service.specs.Run.{nothing_found, filled_by, given_at};
 ghost use Rattle.dmn_table.specs.Table.{Table as TableData};
-ghost use Rattle.dmn_ranges.specs.Ranges.{AreWithin, covers, scope};
+ghost use Rattle.dmn_ranges.specs.Ranges.{AreWithin, covers};
 ghost use Rattle.dmn_ranges.specs.Decisions.{AreRangesOf};
-ghost use Rattle.dmn_ranges.specs.Services.{TellsFound, told_at as told_at_of, not_found as nothing_told, needs_scope, needs_limit, outputs_outcomes as outputs_outcomes_of, domain_at as domain_at_of, given_told, filled_told, place_outcomes};
+ghost use Rattle.dmn_ranges.specs.Services.{TellsFound, told_at as told_at_of, not_found as nothing_told, needs_scope, needs_limit, outputs_outcomes as outputs_outcomes_of, domain_at as domain_at_of, given_told, TellsFilled, TellsItem};
 
-use crate::boxed::{Bound, box_outcomes};
+use crate::boxed::box_outcomes;
+use crate::names::Names;
 use crate::outcomes::Outcomes;
-use crate::range::{NamedRange, Range, either};
+use crate::range::Range;
 use crate::rule::some_context;
 use dmn_service::{Item, ServicePlan};
 use std::alloc::{AllocError, Global};
@@ -24,36 +24,38 @@ use std::alloc::{AllocError, Global};
 /// What a decision service can give, where the values of its parameters lie in these domains.
 ///
 /// For every request with such values the result lies in the range that is answered; and where a limit is broken, the answer says
-/// that it can be.
+/// that it can be. The analysis of all tables takes at most so many steps; what they don't suffice for is told as without it.
 pub fn range_of_service(
     alloc: Global,
     items: &[Item],
     service: &ServicePlan,
     domains: &[Range],
+    steps: u64,
 ) -> Result<Outcomes, AllocError>
     requires places { HasPlacesWithin items.now service.now }
     requires domains { length domains.now ≡ length service.now.parameters.items }
     ensures { IfOk result (λ o. (m : Model ExprData TableData) (s : Service) (values : List Datum) → IsPlanOf m s items.now service.now → AreWithin domains.now values → covers o (service_result m s (zip (parameters_of s) values)) ≡ true) }
 {
-    let told = ranges_along(alloc, items, service, domains)?;
+    let told = ranges_along(alloc, items, service, domains, steps)?;
     Ok(outputs_outcomes(&service.outputs, &told))
 }
 
 /// What the decisions of a service can give, each at its place, where the values of its parameters lie in these domains.
 ///
 /// For every request with such values the outcome of each decision that the service needs is among what is answered at its place;
-/// of other places nothing is said.
+/// of other places nothing is said. The analysis of all tables takes at most so many steps.
 pub fn ranges_of_decisions(
     alloc: Global,
     items: &[Item],
     service: &ServicePlan,
     domains: &[Range],
+    steps: u64,
 ) -> Result<Vec<Outcomes>, AllocError>
     requires places { HasPlacesWithin items.now service.now }
     requires domains { length domains.now ≡ length service.now.parameters.items }
     ensures { IfOk result (λ told. AreRangesOf items.now service.now domains.now told.items) }
 {
-    let told = ranges_along(alloc, items, service, domains)?;
+    let told = ranges_along(alloc, items, service, domains, steps)?;
     Ok(told)
 }
 
@@ -66,19 +68,21 @@ pub struct ServiceRanges {
     pub result: Outcomes,
 }
 
-/// What a service and its decisions can give, where the values of its parameters lie in these domains.
+/// What a service and its decisions can give, where the values of its parameters lie in these domains. The analysis of all tables takes
+/// at most so many steps.
 pub fn ranges_of_service(
     alloc: Global,
     items: &[Item],
     service: &ServicePlan,
     domains: &[Range],
+    steps: u64,
 ) -> Result<ServiceRanges, AllocError>
     requires places { HasPlacesWithin items.now service.now }
     requires domains { length domains.now ≡ length service.now.parameters.items }
     ensures decisions { IfOk result (λ r. AreRangesOf items.now service.now domains.now r.decisions.items) }
     ensures result { IfOk result (λ r. (m : Model ExprData TableData) (s : Service) (values : List Datum) → IsPlanOf m s items.now service.now → AreWithin domains.now values → covers r.result (service_result m s (zip (parameters_of s) values)) ≡ true) }
 {
-    let told = ranges_along(alloc, items, service, domains)?;
+    let told = ranges_along(alloc, items, service, domains, steps)?;
     let result = outputs_outcomes(&service.outputs, &told);
     Ok(ServiceRanges {
         decisions: told,
@@ -93,6 +97,7 @@ pub(crate) fn ranges_along(
     items: &[Item],
     service: &ServicePlan,
     domains: &[Range],
+    steps: u64,
 ) -> Result<Vec<Outcomes>, AllocError>
     requires places { HasPlacesWithin items.now service.now }
     requires domains { length domains.now ≡ length service.now.parameters.items }
@@ -101,7 +106,8 @@ pub(crate) fn ranges_along(
 {
     let mut told = nothing(alloc, items.len())?;
     give(&service.parameters, domains, &mut told);
-    fill(alloc, items, &service.order, &mut told)?;
+    let mut rest = steps;
+    fill(alloc, items, &service.order, &mut told, &mut rest)?;
     Ok(told)
 }
 
@@ -162,14 +168,16 @@ fn fill(
     items: &[Item],
     order: &[usize],
     told: &mut Vec<Outcomes>,
+    steps: &mut u64,
 ) -> Result<(), AllocError>
     requires order { All (λ q. q < length items.now) order.now }
     requires needs { All (λ x. All (λ q. q < length items.now) x.needs.items) items.now }
     requires count { length told.old.items ≡ length items.now }
-    ensures { OnOk result (told.new.items ≡ filled_told items.now order.now told.old.items) }
+    ensures filled { OnOk result (TellsFilled items.now order.now told.old.items told.new.items) }
+    ensures count { OnOk result (length told.new.items ≡ length told.old.items) }
 {
     for place in order {
-        let outcomes = item_outcomes(alloc, items, &items[*place], told)?;
+        let outcomes = item_outcomes(alloc, items, &items[*place], told, steps)?;
         keep(told, *place, outcomes);
     }
     Ok(())
@@ -185,27 +193,29 @@ pub fn told_at(told: &[Outcomes], place: usize) -> Outcomes
     }
 }
 
-// The names that are needed, with what was told of their places; and whether a limit can be broken at one of them.
-fn needed(
+// The names that are needed, with what was told of their places.
+pub(crate) fn needed(
     alloc: Global,
     items: &[Item],
     needs: &[usize],
     told: &[Outcomes],
-) -> Result<Bound, AllocError>
+) -> Result<Names, AllocError>
     requires { All (λ q. q < length items.now) needs.now }
-    ensures names { IfOk result (λ b. scope b.names.items ≡ needs_scope (name_at items.now) told.now needs.now) }
-    ensures limit { IfOk result (λ b. b.limit ≡ needs_limit told.now needs.now) }
+    ensures { IfOk result (λ names. names ≡ needs_scope (name_at items.now) told.now needs.now) }
 {
-    let mut names = Vec::with_capacity(alloc, needs.len())?;
-    let mut limit = false;
+    let mut names = Names::new(alloc);
     for place in needs {
         let outcomes = told_at(told, *place);
-        limit = either(limit, outcomes.limit);
-        let name = items[*place].name.clone()?;
-        let range = outcomes.range;
-        names.push(NamedRange { name, range })?;
+        names.bind(alloc, items[*place].name.as_str(), outcomes.range)?;
     }
-    Ok(Bound { names, limit })
+    Ok(names)
+}
+
+// Whether a limit can be broken at one of these places.
+fn can_break(needs: &[usize], told: &[Outcomes]) -> bool
+    ensures { result ≡ needs_limit told.now needs.now }
+{
+    needs.iter().any(|place| told_at(told, *place).limit)
 }
 
 // What a decision's logic can give, from what was told of its needs; null for an input.
@@ -214,16 +224,17 @@ fn item_outcomes(
     items: &[Item],
     item: &Item,
     told: &[Outcomes],
+    steps: &mut u64,
 ) -> Result<Outcomes, AllocError>
     requires { All (λ q. q < length items.now) item.now.needs.items }
-    ensures { IfOk result (λ o. o ≡ place_outcomes (name_at items.now) told.now item.now.needs.items (option_map logic_view item.now.logic)) }
+    ensures { IfOk result (TellsItem items.now told.now item.now) }
 {
     let Some(logic) = &item.logic else {
         return Ok(Outcomes::given(Range::null()));
     };
-    let bound = needed(alloc, items, &item.needs, told)?;
-    let outcomes = box_outcomes(alloc, logic, &bound.names)?;
-    Ok(outcomes.limited(bound.limit))
+    let mut names = needed(alloc, items, &item.needs, told)?;
+    let outcomes = box_outcomes(alloc, logic, &mut names, steps)?;
+    Ok(outcomes.limited(can_break(&item.needs, told)))
 }
 
 // The value of the one output, or the context of all.

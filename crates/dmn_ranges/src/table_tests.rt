@@ -53,7 +53,7 @@ fn columns(alloc: Global, defaults: &[&str]) -> Result<Vec<Output>, Fail> {
     Ok(columns)
 }
 
-fn hold(rt: &impl Abort, alloc: Global, rows: &[Row]) -> Result<(), Fail> {
+fn hold(rt: &impl Abort, alloc: Global, rows: &[Row], steps: u64) -> Result<(), Fail> {
     let names = names(alloc)?;
     for (place, (hit, inputs, defaults, written, want)) in rows.iter().enumerate() {
         let mut rules = Vec::new(alloc);
@@ -67,7 +67,7 @@ fn hold(rt: &impl Abort, alloc: Global, rows: &[Row]) -> Result<(), Fail> {
             assert_eq!(rt; (place, "a table"), (place, *want));
             continue;
         };
-        let got = words(alloc, range_of_table(alloc, &table, &names)?)?;
+        let got = words(alloc, range_of_table(alloc, &table, &names, steps)?)?;
         assert_eq!(rt; (place, got.as_str()), (place, *want));
     }
     Ok(())
@@ -121,7 +121,7 @@ const FIRST: &[Row] = &[
         &["modulo(small, 2)"],
         &[""],
         &[(&["0"], &["1"]), (&["1"], &["2"])],
-        "null 1..2 ",
+        "1..2 ",
     ),
     ("F", &["small"], &["full + 1"], &[(&["-"], &["1"])], "1..1 "),
     (
@@ -233,7 +233,7 @@ const OTHERS: &[Row] = &[
         &["small"],
         &[""],
         &[(&["< 5"], &["1"]), (&[">= 5"], &["2"])],
-        "null 1..2 ",
+        "1..2 ",
     ),
     (
         "U",
@@ -406,12 +406,340 @@ const OTHERS: &[Row] = &[
     ),
 ];
 
+const NUMBERS_TOGETHER: &[Row] = &[
+    (
+        "F",
+        &["small"],
+        &[""],
+        &[(&["<= 5"], &["1"]), (&[">= 6"], &["2"])],
+        "1..2 ",
+    ),
+    (
+        "F",
+        &["small"],
+        &[""],
+        &[(&["< 5"], &["1"]), (&["> 5"], &["2"])],
+        "null 1..2 ",
+    ),
+    (
+        "F",
+        &["small"],
+        &["9"],
+        &[(&["< 5"], &["1"]), (&[">= 5"], &["2"])],
+        "1..2 ",
+    ),
+    (
+        "U",
+        &["small"],
+        &[""],
+        &[(&["<= 5"], &["1"]), (&[">= 5"], &["2"])],
+        "null 1..2 ",
+    ),
+    (
+        "U",
+        &["small"],
+        &["9"],
+        &[(&["<= 5"], &["1"]), (&[">= 7"], &["2"])],
+        "1..9 ",
+    ),
+    (
+        "A",
+        &["small"],
+        &[""],
+        &[
+            (&["< 3"], &["1"]),
+            (&["[3..7]"], &["2"]),
+            (&["> 7"], &["3"]),
+        ],
+        "1..3 ",
+    ),
+    (
+        "A",
+        &["small"],
+        &[""],
+        &[(&["< 5"], &["1"]), (&[">= 5"], &["1"]), (&["7"], &["1"])],
+        "null 1..1 ",
+    ),
+    (
+        "C+",
+        &["small"],
+        &[""],
+        &[(&["< 5"], &["1"]), (&[">= 5"], &["2"])],
+        "0..3 ",
+    ),
+    (
+        "C+",
+        &["small"],
+        &[""],
+        &[(&["< 5"], &["1"]), (&["> 5"], &["2"])],
+        "null 0..3 ",
+    ),
+    (
+        "U",
+        &["maybe"],
+        &[""],
+        &[(&["null"], &["1"]), (&["[0..5]"], &["2"])],
+        "1..2 ",
+    ),
+    (
+        "U",
+        &["maybe"],
+        &[""],
+        &[(&["< 3"], &["1"]), (&[">= 3"], &["2"])],
+        "null 1..2 ",
+    ),
+    (
+        "U",
+        &["full"],
+        &[""],
+        &[(&["< 0"], &["1"]), (&["0"], &["2"]), (&["> 0"], &["3"])],
+        "1..3 ",
+    ),
+];
+
+const KINDS_TOGETHER: &[Row] = &[
+    (
+        "U",
+        &["any"],
+        &[""],
+        &[(&["null"], &["1"]), (&["not(null)"], &["2"])],
+        "1..2 ",
+    ),
+    (
+        "U",
+        &["any"],
+        &[""],
+        &[(&["< 0"], &["1"]), (&[">= 0"], &["2"])],
+        "null 1..2 ",
+    ),
+    (
+        "U",
+        &["yesno"],
+        &[""],
+        &[(&["true"], &["1"]), (&["false"], &["2"])],
+        "1..2 ",
+    ),
+    (
+        "U",
+        &["grade"],
+        &[""],
+        &[
+            (&["\"low\""], &["1"]),
+            (&["\"middle\""], &["2"]),
+            (&["\"high\""], &["3"]),
+        ],
+        "1..3 ",
+    ),
+    (
+        "U",
+        &["grade"],
+        &[""],
+        &[(&["\"low\""], &["1"]), (&["\"high\""], &["3"])],
+        "null 1..3 ",
+    ),
+    (
+        "U",
+        &["grade"],
+        &[""],
+        &[
+            (&["\"low\", \"high\""], &["1"]),
+            (&["\"middle\""], &["2"]),
+            (&["\"none\""], &["3"]),
+        ],
+        "1..2 ",
+    ),
+    (
+        "U",
+        &["grade"],
+        &[""],
+        &[(&["\"low\""], &["1"]), (&["not(\"low\")"], &["2"])],
+        "1..2 ",
+    ),
+    (
+        "U",
+        &["word"],
+        &[""],
+        &[(&["\"a\""], &["1"]), (&["not(\"a\")"], &["2"])],
+        "1..2 ",
+    ),
+    (
+        "U",
+        &["word"],
+        &[""],
+        &[(&["\"a\""], &["1"]), (&["\"b\""], &["2"])],
+        "null 1..2 ",
+    ),
+];
+
+const COLUMNS_TOGETHER: &[Row] = &[
+    (
+        "U",
+        &["small", "yesno"],
+        &[""],
+        &[
+            (&["< 5", "true"], &["1"]),
+            (&["< 5", "false"], &["2"]),
+            (&[">= 5", "-"], &["3"]),
+        ],
+        "1..3 ",
+    ),
+    (
+        "U",
+        &["small", "yesno"],
+        &[""],
+        &[
+            (&["< 5", "true"], &["1"]),
+            (&["< 6", "false"], &["2"]),
+            (&[">= 5", "-"], &["3"]),
+        ],
+        "null 1..3 ",
+    ),
+    (
+        "U",
+        &["small", "yesno"],
+        &[""],
+        &[(&["< 5", "true"], &["1"]), (&[">= 5", "-"], &["3"])],
+        "null 1..3 ",
+    ),
+    (
+        "U",
+        &["small", "wide"],
+        &[""],
+        &[(&["-", "< 5"], &["small"]), (&["-", ">= 5"], &["wide"])],
+        "-3..10 ",
+    ),
+    (
+        "F",
+        &["small"],
+        &[""],
+        &[(&["< wide"], &["1"]), (&[">= wide"], &["2"])],
+        "null 1..2 ",
+    ),
+    (
+        "F",
+        &["small"],
+        &[""],
+        &[
+            (&["< wide"], &["0"]),
+            (&["< 5"], &["1"]),
+            (&[">= 5"], &["2"]),
+        ],
+        "0..2 ",
+    ),
+    (
+        "F",
+        &["small"],
+        &[""],
+        &[
+            (&["< full + 1"], &["1"]),
+            (&["< 5"], &["2"]),
+            (&[">= 5"], &["3"]),
+        ],
+        "1..3 limit ",
+    ),
+];
+
+const INPUTS_TOGETHER: &[Row] = &[
+    (
+        "F",
+        &["full + 1"],
+        &[""],
+        &[(&["< 5"], &["1"]), (&[">= 5"], &["2"])],
+        "1..2 limit ",
+    ),
+    (
+        "O",
+        &["small"],
+        &[""],
+        &[(&["< 5"], &["1"]), (&[">= 5"], &["2"])],
+        "list ",
+    ),
+    (
+        "C#",
+        &["small"],
+        &[""],
+        &[(&["< 5"], &["1"]), (&[">= 5"], &["2"])],
+        "1..2 ",
+    ),
+    (
+        "C<",
+        &["small"],
+        &[""],
+        &[(&["< 5"], &["small"]), (&[">= 5"], &["2"])],
+        "1..10 ",
+    ),
+    (
+        "P",
+        &["small"],
+        &["\"d\""],
+        &[(&["< 5"], &["\"b\""]), (&[">= 5"], &["\"a\""])],
+        "\"b\" \"a\" ",
+    ),
+    (
+        "U",
+        &["none"],
+        &[""],
+        &[(&["< 5"], &["1"]), (&[">= 5"], &["2"])],
+        "",
+    ),
+    (
+        "F",
+        &["items"],
+        &[""],
+        &[(&["[1, 2]"], &["1"]), (&["not([1, 2])"], &["2"])],
+        "null 1..2 ",
+    ),
+];
+
+// With so few steps that the rules can't be read.
+const WITHOUT_STEPS: &[Row] = &[
+    (
+        "F",
+        &["small"],
+        &[""],
+        &[(&["< 5"], &["1"]), (&[">= 5"], &["2"])],
+        "null 1..2 ",
+    ),
+    (
+        "U",
+        &["small"],
+        &["7"],
+        &[(&["< 5"], &["1"]), (&[">= 5"], &["2"])],
+        "null 1..7 ",
+    ),
+];
+
 #[test]
 fn first_hits(rt: HostRuntime) -> Result<(), Fail> {
-    hold(&rt, rt.alloc(), FIRST)
+    hold(&rt, rt.alloc(), FIRST, 100_000)
 }
 
 #[test]
 fn other_policies(rt: HostRuntime) -> Result<(), Fail> {
-    hold(&rt, rt.alloc(), OTHERS)
+    hold(&rt, rt.alloc(), OTHERS, 100_000)
+}
+
+#[test]
+fn numbers_together(rt: HostRuntime) -> Result<(), Fail> {
+    hold(&rt, rt.alloc(), NUMBERS_TOGETHER, 100_000)
+}
+
+#[test]
+fn kinds_together(rt: HostRuntime) -> Result<(), Fail> {
+    hold(&rt, rt.alloc(), KINDS_TOGETHER, 100_000)
+}
+
+#[test]
+fn columns_together(rt: HostRuntime) -> Result<(), Fail> {
+    hold(&rt, rt.alloc(), COLUMNS_TOGETHER, 100_000)
+}
+
+#[test]
+fn inputs_together(rt: HostRuntime) -> Result<(), Fail> {
+    hold(&rt, rt.alloc(), INPUTS_TOGETHER, 100_000)
+}
+
+#[test]
+fn no_steps_left(rt: HostRuntime) -> Result<(), Fail> {
+    hold(&rt, rt.alloc(), WITHOUT_STEPS, 3)
 }

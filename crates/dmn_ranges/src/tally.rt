@@ -1,14 +1,15 @@
 //! What the rules of a table can give together.
 ghost use Rattle.std.specs.Prelude.{◌≡◌, map, option_map};
 ghost use Rattle.dmn_table.specs.Parts.{rule_view};
-ghost use Rattle.dmn_ranges.specs.Ranges.{scope};
+ghost use Rattle.dmn_ranges.specs.Asking.{without as without_of};
 ghost use Rattle.dmn_ranges.specs.Tables.{or_zero as or_zero_of, zero_alone as zero_of, share as share_of, unless_past as unless_past_of, plus as plus_of, joined_if as joined_if_of, blank as blank_of, tally_with as tally_with_of, tally_rule as tally_rule_of, tally_rules as tally_rules_of, null_if as null_if_of, any_sum as any_sum_of, within_bounds as within_bounds_of, summed as summed_of, by_policy as by_policy_of};
 
 use crate::bounded::{Bounded, between_bounds, counted_to, sum};
 use crate::interval::{Interval, higher, lower};
+use crate::names::Names;
 use crate::outcomes::{Outcomes, numbers_given};
 use crate::parts::listed;
-use crate::range::{NamedRange, Range, both, either, joined};
+use crate::range::{Range, both, either, joined};
 use crate::rule::{Hits, Shape, rule_gives, rule_hits};
 use dmn_table::{HitPolicy, Rule};
 
@@ -97,6 +98,17 @@ impl Tally {
         }
     }
 
+    /// The same, but that no rule hits, and that several do, only where this is said.
+    pub(crate) fn without(self, none: bool, several: bool) -> Tally
+        ensures { result ≡ without_of self none several }
+    {
+        Tally {
+            may_be_none: both(self.may_be_none, none),
+            may_be_several: both(self.may_be_several, several),
+            ..self
+        }
+    }
+
     // With one rule more, of which this can become, and which gives this where it hits.
     fn with_rule(self, hits: Hits, output: Outcomes) -> Tally
         ensures { result ≡ tally_with_of self hits output }
@@ -114,14 +126,8 @@ impl Tally {
 }
 
 // With one rule more.
-fn tally_rule(
-    tally: Tally,
-    rule: &Rule,
-    shape: Shape,
-    columns: &[Outcomes],
-    names: &[NamedRange],
-) -> Tally
-    ensures { result ≡ tally_rule_of shape columns.now (scope names.now) tally (rule_view rule.now) }
+fn tally_rule(tally: Tally, rule: &Rule, shape: Shape, columns: &[Outcomes], names: &Names) -> Tally
+    ensures { result ≡ tally_rule_of shape columns.now names.now tally (rule_view rule.now) }
 {
     let hits = rule_hits(&rule.tests, columns, names);
     let output = rule_gives(shape, &rule.gives, names);
@@ -133,9 +139,9 @@ pub(crate) fn tally_rules(
     rules: &[Rule],
     shape: Shape,
     columns: &[Outcomes],
-    names: &[NamedRange],
+    names: &Names,
 ) -> Tally
-    ensures { result ≡ tally_rules_of shape columns.now (scope names.now) (map rule_view rules.now) }
+    ensures { result ≡ tally_rules_of shape columns.now names.now (map rule_view rules.now) }
 {
     let mut tally = Tally::blank();
     for rule in rules {

@@ -115,7 +115,7 @@ fn hold(rt: &impl Abort, alloc: Global, rows: &[(&str, &str)]) -> Result<(), Fai
     let names = names(alloc)?;
     for (text, want) in rows {
         let expr = read_expr(alloc, text)?;
-        let got = words(alloc, range_of_expression(expr.tree(), &names))?;
+        let got = words(alloc, range_of_expression(alloc, expr.tree(), &names)?)?;
         assert_eq!(rt; (*text, got.as_str()), (*text, *want));
     }
     Ok(())

@@ -1,2 +1,3 @@
 pub mod Covering
 pub mod Serving
+pub mod Comings

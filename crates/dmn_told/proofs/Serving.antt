@@ -30,7 +30,7 @@ result_at text n values m s read named =
     ap (λ (r : Result (Model Expr Table) ModelFault). outcome_under r (service_in r n) values) read ∙ ap (λ (o : Option Service). outcome_under (Ok m) o values) named
 
 -- these are the names of the service's parameters
-named_by : (text : List ℕ) (n : Name) (names : List Name) (m : Model Expr Table) (s : Service) → read_text text ≡ Ok m → service_named m.services n ≡ Some s
+pub named_by : (text : List ℕ) (n : Name) (names : List Name) (m : Model Expr Table) (s : Service) → read_text text ≡ Ok m → service_named m.services n ≡ Some s
     → Some names ≡ option_map parameters_of (service_in (read_text text) n) → names ≡ parameters_of s
 named_by text n names m s read named e =
     let same : Some names ≡ Some (parameters_of s) = e ∙ ap (λ (r : Result (Model Expr Table) ModelFault). option_map parameters_of (service_in r n)) read ∙ ap (option_map parameters_of) named in

@@ -19,25 +19,25 @@ pub struct Domain {
 }
 
 // The values that a name may have, where they lie in the range and meet one domain more.
-fn with_domain(range: Range, domain: &Domain, name: &str) -> Range
+fn with_domain(alloc: Global, range: Range, domain: &Domain, name: &str) -> Range
     ensures { (v : Datum) → is_value v ≡ true → (bytes_eq (string_bytes domain.now.name) name.now ≡ true → meets domain.now.tests v ≡ true) → lies_in range v ≡ true → lies_in result v ≡ true }
 {
     if domain.name.as_str() == name {
-        range_of_domain(&domain.tests)
+        range_of_domain(alloc, &domain.tests)
     } else {
         range
     }
 }
 
 // The values that a name may have. Domains that aren't in the order of their names may not be found, and then any value may come.
-fn domain_of(domains: &[Domain], name: &str) -> Range
+fn domain_of(alloc: Global, domains: &[Domain], name: &str) -> Range
     ensures { (v : Datum) → is_value v ≡ true → IsMet domains.now name.now v → lies_in result v ≡ true }
 {
     let place = domains.partition_point(|domain| domain.name.as_str() < name);
     if place >= domains.len() {
         return Range::any();
     }
-    with_domain(Range::any(), &domains[place], name)
+    with_domain(alloc, Range::any(), &domains[place], name)
 }
 
 /// The values that each of these names may have.
@@ -51,7 +51,7 @@ pub(crate) fn domains_of(
 {
     let mut ranges = Vec::with_capacity(alloc, names.len())?;
     for name in names {
-        ranges.push(domain_of(domains, name))?;
+        ranges.push(domain_of(alloc, domains, name))?;
     }
     Ok(ranges)
 }

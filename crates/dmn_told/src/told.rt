@@ -25,12 +25,13 @@ pub struct ServiceTold<'a> {
 
 /// What the service of this name and its decisions can give, where each value of a parameter meets the tests that are declared
 /// under the parameter's name. None where there is no such service. The domains are in the order of their names; one that isn't may
-/// count as none.
+/// count as none. The analysis of all its tables takes at most so many steps.
 pub fn told_of_service<'a>(
     alloc: Global,
     plan: &'a Plan,
     service: &str,
     domains: &[Domain],
+    steps: u64,
 ) -> Result<Option<ServiceTold<'a>>, AllocError>
     ensures there { IfOk result (λ t. is_some t ≡ is_some (service_in (read_text plan.now) service.now)) }
     ensures told { IfOk result (λ t. IfSome t (IsToldOf plan.now service.now domains.now)) }
@@ -42,7 +43,7 @@ pub fn told_of_service<'a>(
         return Ok(None);
     };
     let ranges = domains_of(alloc, domains, &names)?;
-    let told = ranges_of_service(alloc, items, planned, &ranges)?;
+    let told = ranges_of_service(alloc, items, planned, &ranges, steps)?;
     Ok(Some(ServiceTold {
         items,
         plan: planned,

@@ -25,15 +25,22 @@ const COMPLETE = {
   words: "complete for the words that its rules ask for",
 };
 
+/** Whether some rule hits for the values that a table was looked at for; nothing where none is known to. */
+function complete(told) {
+  if (told.comes && told.complete) return "complete for what can come";
+  return COMPLETE[Object.keys(COMPLETE).find((of) => told[of])];
+}
+
 /** Whether a table is complete and its rules overlap, as `text`; `isFine` where there is nothing to look at. */
 export function verdict(told, table) {
-  const key = Object.keys(COMPLETE).find((of) => told[of]);
-  const open = told.asked === null ? "whether it is complete is not decided" : "not complete";
+  const isComplete = complete(told);
+  const scope = told.comes ? " for what can come" : "";
+  const open = told.asked === null ? "whether it is complete is not decided" : `not complete${scope}`;
   // Under the other policies several rules may well hit.
   const isSingle = table.hit === "U" || table.hit === "A";
   const overlaps = told.unique === null ? "whether rules overlap is not decided" : "rules overlap";
   const unique = told.unique ? "; no two rules overlap" : isSingle ? `; ${overlaps}` : "";
-  return { text: (key ? COMPLETE[key] : open) + unique, isFine: key !== undefined && (told.unique || !isSingle) };
+  return { text: (isComplete ?? open) + unique, isFine: isComplete !== undefined && (told.unique || !isSingle) };
 }
 
 function numbersOf({ from = LEAST, to = MOST }, unit) {

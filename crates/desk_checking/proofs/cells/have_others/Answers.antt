@@ -1,4 +1,4 @@
-use Rattle.std.proofs.Common.{◌∙◌, sym, ap, drop, arith}
+use Rattle.std.proofs.Common.{◌∙◌, sym, ap, drop}
 use Rattle.std.proofs.lemmas.List.{drop_all}
 use Rattle.desk_checking.specs.TableTold.{have_others}
 use Rattle.desk_checking.proofs.TableLines.{none_left}

@@ -1,5 +1,5 @@
-use Rattle.std.proofs.Common.{◌≡◌, ◌∙◌, ap, arith, false, map, refl, rules, subst, sym, true}
-use Rattle.desk_ranges.specs.Gives.{TellsServices, written_name}
+use Rattle.std.proofs.Common.{◌≡◌, ◌∙◌, false, map, refl, sym, true}
+use Rattle.desk_ranges.specs.Gives.{written_name}
 use Rattle.desk_checking.specs.GivesTold.{looks_at_services}
 use Rattle.desk_checking.proofs.Lawful.{asked, unasked}
 use Rattle.desk_checking.proofs.gives.gives_if.Goals as goal

@@ -1,4 +1,4 @@
-use Rattle.std.proofs.Common.{◌∙◌, ◌++◌, [], List, ap, append-nil, codes, map, string_bytes}
+use Rattle.std.proofs.Common.{◌∙◌, ap, append-nil, codes, map, string_bytes}
 use Rattle.serde_json.specs.Data.{array}
 use Rattle.serde_json.specs.Written.{compact_text}
 use Rattle.dmn_form.specs.ModelView.{decision_view, model_view, service_view}

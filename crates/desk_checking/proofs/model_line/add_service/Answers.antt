@@ -1,4 +1,4 @@
-use Rattle.std.proofs.Common.{ℕ, List, ◌++◌, ap, ap₂, codes, map, string_bytes}
+use Rattle.std.proofs.Common.{◌++◌, ap, ap₂, codes, map, string_bytes}
 use Rattle.json.specs.Print.{quoted}
 use Rattle.serde_json.specs.Data.{array}
 use Rattle.serde_json.specs.Written.{compact_text}

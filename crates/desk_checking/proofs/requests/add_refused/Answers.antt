@@ -1,4 +1,4 @@
-use Rattle.std.proofs.Common.{◌≡◌, ◌<◌, ◌≤◌, ◌∙◌, ◌++◌, [], ◌∷◌, Option, append-nil, ap, arith, length, sym, take}
+use Rattle.std.proofs.Common.{◌<◌, ◌≤◌, ◌∙◌, ◌++◌, [], ◌∷◌, Option, append-nil, ap, arith, length, sym, take}
 use Rattle.std.proofs.lemmas.List.{length-append, take-append-le, take_all}
 use Rattle.desk_requests.specs.Gate.{listed}
 use Rattle.desk_requests.specs.declared.refused.RefusedLine.{RefusedLine}

@@ -1,8 +1,8 @@
-use Rattle.std.proofs.Common.{◌≡◌, ◌∙◌, ◌+◌, arith, length, refl, sym, subst, Some, true, false}
+use Rattle.std.proofs.Common.{◌≡◌, ◌∙◌, arith, length, refl, sym, subst, Some, true, false}
 use Rattle.std.proofs.lemmas.Option.{slice_get_read}
 use Rattle.desk_checking.specs.Literals.{TellsPair}
 use Rattle.desk_checking.specs.Outputs.{AreEntries, AreEqual}
-use Rattle.desk_checking.proofs.SameValues.{AreSameBelow, all_below, none_below, one_below}
+use Rattle.desk_checking.proofs.SameValues.{all_below, none_below, one_below}
 use Rattle.desk_checking.proofs.same_outputs.gives_differ.Goals as goal
 use Rattle.desk_checking.proofs.same_outputs.gives_differ.Goals.{in-Some-false, in-None}
 

@@ -1,9 +1,7 @@
-use Rattle.std.proofs.Common.{◌≡◌, ◌++◌, ◌-◌, ◌∙◌, ℕ, zero, suc, List, [], ◌∷◌, ap, arith, codes, false, length, map, refl, take}
+use Rattle.std.proofs.Common.{◌≡◌, ◌-◌, ◌∙◌, ℕ, zero, suc, List, [], ◌∷◌, ap, arith, codes, false, length, map, refl, take}
 use Rattle.std.proofs.lemmas.List.{length-map}
 use Rattle.dmn_analysis.specs.declared.cell.Words.{Words}
-use Rattle.dmn_analysis.specs.declared.found.Gap.{Gap}
 use Rattle.dmn_analysis.specs.declared.found.Gaps.{Gaps}
-use Rattle.desk_checking.specs.Answering.{gaps_of_kinds}
 use Rattle.desk_checking.specs.TableTold.{gap_line, more_findings, more_others, other_gaps, room_left}
 use Rattle.desk_checking.proofs.Lines.{first, then}
 use Rattle.desk_checking.proofs.table_lines.add_others.Goals as goal

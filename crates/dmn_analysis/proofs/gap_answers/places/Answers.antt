@@ -34,3 +34,6 @@ returns-clause-below c = c.loop-place.invariant.0.0
 
 pub returns-clause-each : goal.returns-clause-each
 returns-clause-each c = λ r less. c.loop-place.invariant.1 r (omega (arith, less, c.loop-place-test.false))
+
+pub returns-clause-long : goal.returns-clause-long
+returns-clause-long c = omega (arith, c.loop-place.invariant.0.1, c.loop-place-test.false, c.loop-place.auto.place-end)

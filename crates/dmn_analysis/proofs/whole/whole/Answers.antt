@@ -15,9 +15,9 @@ loop-place-preserved c =
     let long = c.loop-place.invariant.0 in
     let of = ap (slice_get words) long ∙ at_place words place c.index-words-place.result c.if-place-words.false c.index-words-place.is in
     let is = ap (slice_get asked) long ∙ at_place asked place c.index-asked-place.result c.if-place-asked.false c.index-asked-place.is in (
-      ap length c.in_ok-push.ensures.items ∙ omega (arith, long, length-append cells (c.in-Some.cell ∷ [])),
+      ap length c.in_ok-push.ensures.items ∙ omega (arith, long, length-append cells (c.whole_cell.result ∷ [])),
       subst (AreWhole words asked) (sym c.in_ok-push.ensures.items)
-          (whole_more words asked cells c.index-words-place.result c.index-asked-place.result c.in-Some.cell c.loop-place.invariant.1 of is c.in-Some.ensures.whole),
+          (whole_more words asked cells c.index-words-place.result c.index-asked-place.result c.whole_cell.result c.loop-place.invariant.1 of is c.whole_cell.ensures),
     )
 
 pub returns-clause-long : goal.returns-clause-long

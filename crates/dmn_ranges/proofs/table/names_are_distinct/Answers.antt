@@ -1,14 +1,10 @@
-use Rattle.std.proofs.Common.{◌+◌}
-use Rattle.std.proofs.lemmas.List.{take_rest}
-use Rattle.dmn_table.proofs.Distinct.{distinct_more, distinct_no_more}
+use Rattle.std.proofs.Common.{◌≡◌, ◌∙◌, ap, refl, ℕ, List, Bor, Bool, true, false, not, map}
+use Rattle.feel_value.specs.Distinct.{are_distinct}
 use Rattle.dmn_ranges.proofs.table.names_are_distinct.Goals as goal
 
-pub loop-i-preserved : goal.loop-i-preserved
-loop-i-preserved c =
-    distinct_more c.args.outputs.now c.loop-i.i c.index-outputs-i.result _ c.as_str.result.now c.is_among.result
-    c.loop-i.invariant c.loop-i-test.true c.index-outputs-i.is (take_rest c.args.outputs.now (c.loop-i.i + 1)) c.as_str.ensures.value c.is_among.ensures c.if-is_among.false
+not_not : (b : Bool) → not (not b) ≡ b
+not_not true = refl
+not_not false = refl
 
-pub returns-then-is_among : goal.returns-then-is_among
-returns-then-is_among c =
-    distinct_no_more c.args.outputs.now c.loop-i.i c.index-outputs-i.result _ c.as_str.result.now c.is_among.result
-    c.loop-i.invariant c.loop-i-test.true c.index-outputs-i.is (take_rest c.args.outputs.now (c.loop-i.i + 1)) c.as_str.ensures.value c.is_among.ensures c.if-is_among.true
+pub returns : goal.returns
+returns c = ap not c.in_ok-is_twice.ensures ∙ not_not _ ∙ ap (λ ns. are_distinct (map (λ (n : Bor (List ℕ)). n.now) ns)) c.deref.ensures.value ∙ ap are_distinct c.in_ok-names.ensures

@@ -8,6 +8,6 @@ returns-then-is_nothing c = (λ some. absurd (not_both c.is_nothing.result (c.is
 
 pub returns : goal.returns
 returns c = (
-  λ some. record { null = refl; truths = refl; numbers = refl; parted = refl; texts = c.texts_asked-texts.ensures (seen_kinds c.args.self) refl refl },
+  λ some. record { null = refl; truths = refl; numbers = c.numbers_asked-numbers.ensures; parted = refl; texts = c.texts_asked-texts.ensures (seen_kinds c.args.self) refl refl },
   λ none. absurd (not_both c.is_nothing.result c.if-is_nothing.false (c.is_nothing.ensures ∙ none)),
 )
