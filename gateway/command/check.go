@@ -36,9 +36,9 @@ is then 4 if a table has one of these, or if that can't be decided. A gap counts
 column's tests ask for, and where no output has a default. With domains, gaps and overlaps are those of what can come.
 
 With --gives each decision and service has what it can give, for inputs within their domains: unary tests of constants,
-in the line of the model. Of a file of DMN they are its declared types and values.
+in the line of the model, for inputs and for their components. Of a file of DMN they are its declared types and values.
 
-  {"model":M,"domains":{"age":"[0..120]","kind":"\"new\", \"used\""}}
+  {"model":M,"domains":{"age":"[0..120]","kind":"\"new\", \"used\"","applicant.income":">= 0"}}
 
 With --strict-null the status is 4 if a service can give null or break a limit.
 

@@ -70,3 +70,52 @@ func TestImportWritesDomains(t *testing.T) {
 		t.Errorf("the line is %s", out)
 	}
 }
+
+// parted is a file with an input of a structure.
+const parted = header + `<itemDefinition name="t"><itemComponent name="Net pay"><typeRef>number</typeRef><allowedValues><text>[0..9]</text></allowedValues>` +
+	`</itemComponent></itemDefinition><inputData id="i" name="a"><variable name="a" typeRef="t"/></inputData><decision id="d" name="d">` +
+	`<informationRequirement id="r"><requiredInput href="#i"/></informationRequirement><literalExpression><text>a.Net pay</text></literalExpression>` +
+	`</decision></definitions>`
+
+// TestImportWritesComponents expects domains of components by their paths, and nullable ones by names or by words.
+func TestImportWritesComponents(t *testing.T) {
+	path := file(t, parted)
+	for _, it := range []struct {
+		words  []string
+		status int
+		due    string
+	}{
+		{nil, 0, `"domains":{"a":"not(null)","a.Net_pay":"[0..9]"},"required":["a","a.Net_pay"]`},
+		{[]string{"--nullable", "a.Net pay"}, 0, `"domains":{"a":"not(null)","a.Net_pay":"[0..9], null"},"required":["a"]`},
+		{[]string{"--nullable", "a.Net_pay"}, 0, `"a.Net_pay":"[0..9], null"},"required":["a"]`},
+		{[]string{"--nullable", "a"}, 0, `"domains":{"a.Net_pay":"[0..9], null"},"places":`},
+		{[]string{"--nullable", "a.pay"}, 2, "--nullable a.pay: there is no such input, and no such component of one; there are a"},
+		{[]string{"--nullable", "pay"}, 2, "--nullable pay: there is no such input"},
+	} {
+		if status, out, errs := imports(append(it.words, path)...); status != it.status || !strings.Contains(out+errs, it.due) {
+			t.Errorf("%q: %d %s%s, and %s is due", it.words, status, out, errs, it.due)
+		}
+	}
+}
+
+// TestCheckOfComponents gives an engine the domains of components if it takes such; of a file it says nothing otherwise.
+func TestCheckOfComponents(t *testing.T) {
+	path := file(t, parted)
+	for help, due := range map[string]string{"an input": `"domains":{"a":"not(null)"`, "an input or a path of an input": `"domains":{"a":"not(null)","a.Net_pay":"[0..9]"}`} {
+		_, input := engineThatKeeps(t)
+		engine := filepath.Join(filepath.Dir(input), "engine")
+		script, err := os.ReadFile(engine)
+		if err == nil {
+			err = os.WriteFile(engine, []byte(strings.Replace(string(script), "\n", "\n[ \"$1\" = help ] && echo '"+help+"' && exit\n", 1)), 0o700)
+		}
+		if err != nil {
+			t.Fatal(err)
+		}
+		status, out, errs := runs("", "check", "--gives", path)
+		came, err := os.ReadFile(input)
+		if status != 0 || err != nil || !strings.Contains(string(came), due) || strings.Contains(string(came), "a.Net_pay\":") != strings.Contains(due, "Net_pay") ||
+			strings.Contains(errs, "left out") {
+			t.Errorf("%s: %d %s%s: came %s, and %s is due", help, status, out, errs, came, due)
+		}
+	}
+}

@@ -73,8 +73,9 @@ func serveCommand() *cobra.Command {
   {"client":"ann","close":true}                    the client makes no more requests
   {"resize":"ann","capacity":3}                    the client has room for three requests
 
-Before the program waits for more input it answers everything that was asked. So a slow request delays every line
-after it.
+A client's answers come in the order of its lines, and are written while the program waits for input. A slow request
+keeps one worker. It delays other clients if all workers are kept, or if a line has to wait for it: one past its
+client's capacity, or its client's next refusal, close or resize.
 
 ` + engineStatus,
 		Example: "  desk serve --workers 4 < examples/clients.jsonl",

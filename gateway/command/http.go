@@ -357,7 +357,7 @@ func readDMN(paths []string, read func(path string) (*dmn.File, error), options 
 	if report.Result == nil {
 		return nil, refusedPlaces(report.Refusals)
 	}
-	if err := report.Result.UnknownNullable(options.Nullable); err != nil {
+	if err := report.Result.UnknownNullable(); err != nil {
 		log("%v", err)
 	}
 	for _, place := range report.Refusals {

@@ -33,7 +33,10 @@ func importCommand() *cobra.Command {
 		Use:   "import [OPTIONS] FILE.dmn|-.. > MODEL.json",
 		Short: "Translates files of DMN 1.1 to 1.5 to a model",
 		Long: `Several files are imported to one model. Each place that is not supported is reported on standard error, with what to
-write instead; the status is 3 then. docs/DMN.md has each construct.`,
+write instead; the status is 3 then. docs/DMN.md has each construct.
+
+The model comes with what each input and component may be by the declared types and values, and which ones callers must
+give.`,
 		Example: `  desk import --line examples/dmn/dish.dmn > dish.jsonl
   desk import - < examples/dmn/dish.dmn`,
 		ValidArgsFunction: completeFiles("dmn"),
@@ -64,7 +67,7 @@ func runImport(c *cobra.Command, paths []string, options importOptions) error {
 	if !reportImport(c.ErrOrStderr(), report) {
 		return ended(statusRefused)
 	}
-	if err := report.Result.UnknownNullable(options.reading.Nullable); err != nil {
+	if err := report.Result.UnknownNullable(); err != nil {
 		return wrong("%w", err)
 	}
 	return writeImported(c.OutOrStdout(), report.Result, options.line)

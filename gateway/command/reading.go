@@ -24,7 +24,7 @@ func translationFlags(flags *pflag.FlagSet, options *profile.Options) {
 	flags.BoolVar(&options.FreeInputs, "free-inputs", false,
 		"Make an input of each name that nothing declares and that is a typed column's whole expression")
 	flags.StringArrayVar(&options.Nullable, "nullable", nil,
-		"Let the input of this `NAME` be missing or null over HTTP; may come several times")
+		"Let the input or component of this `NAME`, as Age or Applicant.Age, be missing or null over HTTP; may come several times")
 	flags.Var(clock{options}, "clock", "Let today() and now() ask the clock of this zone, as Europe/Berlin, UTC or +02:00")
 	flags.Var(offsets{options}, "offset", "Take times with an offset for the input of this name, as Start or Order.Placed; may come several times")
 	flags.Var(decimals{options}, "decimals", "Take this many decimals of numbers of inputs, or of a decision, as 2, Rate=3 or "+

@@ -87,16 +87,25 @@ const (
 	givesOption  = "--gives"
 )
 
-// HasTables reports whether the engine's check knows tablesOption and givesOption, by its help.
-func HasTables(ctx context.Context, path string) (tables, gives bool) {
+// pathsWords are in the help of a check that takes domains of components of inputs, as of applicant.age.
+const pathsWords = "or a path of an input"
+
+// A Known is what an engine's check knows: tablesOption, givesOption, and domains of components of inputs.
+type Known struct{ Tables, Gives, Paths bool }
+
+// Knows reports what the engine's check knows, by its help.
+func Knows(ctx context.Context, path string) (known Known) {
 	ctx, stop := context.WithTimeout(ctx, checkPatience)
 	defer stop()
 	lines, err := askLines(ctx, path, 0, nil, "help", "check")
-	for _, line := range lines {
-		tables = tables || err == nil && bytes.Contains(line, []byte(tablesOption))
-		gives = gives || err == nil && bytes.Contains(line, []byte(givesOption))
+	if err != nil {
+		return known
 	}
-	return tables, gives
+	help := ""
+	for _, line := range lines {
+		help += strings.TrimSpace(string(line)) + " "
+	}
+	return Known{Tables: strings.Contains(help, tablesOption), Gives: strings.Contains(help, givesOption), Paths: strings.Contains(help, pathsWords)}
 }
 
 // Gives asks what the services of a valid model and their decisions can give: a line for each. The text may have domains.

@@ -24,6 +24,14 @@ type Input struct {
 	Schema json.RawMessage
 	// Required means that requests without it are refused, NotNull that requests with null are, whatever the schema says.
 	Required, NotNull bool
+	// Needs are its components that are required likewise.
+	Needs []Need
+}
+
+// A Need is a component that requests must have, and not as null, with those of its own.
+type Need struct {
+	Name   string
+	Within []Need
 }
 
 type object map[string]any
@@ -69,6 +77,7 @@ func call(service Service, name string, schemas object) object {
 		if input.NotNull {
 			withoutNull(schema)
 		}
+		require(schema, input.Needs)
 		properties[input.Name] = schema
 		example[input.Name] = Example(schema)
 		if input.Required {

@@ -3,6 +3,7 @@ package openapi
 import (
 	"encoding/json"
 	"reflect"
+	"strings"
 	"testing"
 )
 
@@ -63,5 +64,21 @@ func TestInputsThatMayNotBeNull(t *testing.T) {
 	due := map[string]any{"type": "string", "enum": []any{"x"}}
 	if !reflect.DeepEqual(got.Properties["a"], due) || len(got.Required) != 1 {
 		t.Errorf("%+v, and %v is due", got, due)
+	}
+}
+
+// Components that are required are so in the schema, and not null; names that it doesn't have are left out.
+func TestNeeds(t *testing.T) {
+	const part = `{"type":["object","null"],"properties":{"x":{"type":["integer","null"]},"y":{"type":["string","null"],"enum":["a",null]},"z":{}}}`
+	page := described(t, []Service{{Name: "s", Inputs: []Input{{Name: "i", NotNull: true, Required: true,
+		Schema: json.RawMessage(`{"type":["object","null"],"properties":{"p":` + part + `,"q":` + part + `}}`),
+		Needs:  []Need{{Name: "none"}, {Name: "p", Within: []Need{{Name: "y"}, {Name: "x", Within: []Need{{Name: "none"}}}}}}}}}})
+	text, _ := json.Marshal(page["components"].(map[string]any)["schemas"].(map[string]any)["sInputs"])
+	const due = `"properties":{"i":{"properties":{` +
+		`"p":{"properties":{"x":{"format":"int64","type":"integer"},"y":{"enum":["a"],"type":"string"},"z":{}},"required":["y","x"],"type":"object"},` +
+		`"q":{"nullable":true,"properties":{"x":{"format":"int64","nullable":true,"type":"integer"},"y":{"enum":["a",null],"nullable":true,"type":"string"},"z":{}},` +
+		`"type":"object"}},"required":["p"],"type":"object"}},"required":["i"],"type":"object"}`
+	if !strings.Contains(string(text), due) {
+		t.Errorf("%s, and %s is due", text, due)
 	}
 }

@@ -167,6 +167,24 @@ func withoutNull(schema map[string]any) {
 	schema["enum"] = kept
 }
 
+// require says in a schema which components are required, and not null.
+func require(schema map[string]any, needs []Need) {
+	properties, _ := schema["properties"].(map[string]any)
+	var names []string
+	for _, need := range needs {
+		part, is := properties[need.Name].(map[string]any)
+		if !is {
+			continue
+		}
+		withoutNull(part)
+		require(part, need.Within)
+		names = append(names, need.Name)
+	}
+	if len(names) > 0 {
+		schema["required"] = names
+	}
+}
+
 // exampleMoment returns an example of a date, time or duration, or "".
 func exampleMoment(schema map[string]any) string {
 	said, _ := schema["description"].(string)

@@ -10,22 +10,15 @@ import (
 	"gateway/feel/strict"
 )
 
-// domains are unary tests of constants, by the words of inputs: which values each may have, counted as the engine counts. Values that
-// no such test says are left out, so that a domain may have more than the file says, and never less.
-func domains(g *graph, required []string) map[string]string {
-	isRequired := map[string]bool{}
-	for _, word := range required {
-		isRequired[word] = true
-	}
+// domains are unary tests of constants, by the paths of inputs and components: which values each may have, counted as the engine counts.
+// Values that no such test says are left out, so that a domain may have more than the file says, and never less.
+func domains(all []promise, tick calendar.Tick) map[string]string {
 	made := map[string]string{}
-	for _, n := range g.inputs {
-		if n.of == nil {
-			continue
-		}
-		w := domainWriter{of: n.of, tick: g.offsets.tick}
-		text := w.domain(!isRequired[n.word] && n.of.clock == "")
+	for _, it := range all {
+		w := domainWriter{of: it.of, tick: tick}
+		text := w.domain(it.takesNull)
 		if _, ok := strict.ReadTests(text); ok {
-			made[n.word] = text
+			made[it.path] = text
 		}
 	}
 	return made
@@ -67,6 +60,24 @@ func (w domainWriter) ofKind() []string {
 		return []string{">= " + leastNumber.String()}
 	}
 	return nil
+}
+
+// promised are the allowed values of a type, or else the input values of a column that callers promise.
+func (t *valueType) promised() valueList {
+	if len(t.allowed.nodes()) == 0 && isSchema(t.noted.nodes()) {
+		return t.noted
+	}
+	return t.allowed
+}
+
+// listsNull tells whether null is written among the values.
+func (v valueList) listsNull() bool {
+	for _, n := range v.nodes() {
+		if _, is := n.(*feel.Null); is {
+			return true
+		}
+	}
+	return false
 }
 
 // listed are the allowed values of a type, but null, where tests say all of them; of the input values of a column those that callers

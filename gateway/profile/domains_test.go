@@ -78,7 +78,7 @@ func TestDomains(t *testing.T) {
 		{values("years and months duration", `duration("P1Y"), duration("P14M")`), "", "12, 14"},
 		{values("time", `[time("00:01:00")..time("12:00:00")]`), "", "[60..43200]"},
 		{`<typeRef>number</typeRef>` + `<allowedValues><text>-</text></allowedValues>`, "", anyNumber},
-		{`<itemComponent name="a"><typeRef>number</typeRef></itemComponent>`, "", "not(null)"},
+		{part("a", ref("number")), "", "not(null)"},
 	} {
 		options := Options{}
 		if it.decimals != "" {
@@ -202,9 +202,14 @@ func TestDomainsOfFiles(t *testing.T) {
 			t.Fatal(err)
 		}
 		result := Run([]*dmn.File{file}, Options{}).Result
-		if result == nil || len(result.Domains) != len(result.Model.Inputs) {
-			t.Errorf("%s lacks domains", path)
+		if result == nil {
+			t.Errorf("%s has no result", path)
 			continue
+		}
+		for _, input := range result.Model.Inputs {
+			if result.Domains[input] == "" {
+				t.Errorf("%s: %s lacks a domain", path, input)
+			}
 		}
 		for word, text := range result.Domains {
 			if _, ok := strict.ReadTests(text); !ok {

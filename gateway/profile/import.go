@@ -18,10 +18,12 @@ type Result struct {
 	Locals map[string]string
 	// Types has a JSON Schema for each input and decision of the model, by its word.
 	Types map[string]json.RawMessage
-	// Domains has unary tests of constants for inputs, by their words: the values that each may have.
+	// Domains has unary tests of constants for inputs and their components, by their paths in words, as applicant.age: the values that
+	// each may have.
 	Domains map[string]string
-	// Required has the words of the inputs that a caller has to give, and not as null.
-	Required []string
+	// Required has the paths of the inputs and components that a caller has to give, and not as null.
+	Required        []string
+	unknownNullable []string
 	// Places has the element that a part of the model came from, by the part's JSON Pointer (RFC 6901).
 	Places map[string]Place
 	// Origins has the places in the files of the same parts, and of those without an id or a name. The empty pointer is

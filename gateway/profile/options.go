@@ -15,7 +15,7 @@ type Options struct {
 	Offsets []string
 	// Decimals say how many decimals the numbers of inputs have; nil if not given.
 	Decimals *Decimals
-	// Nullable has the names of inputs with a declared type that may still be missing or null.
+	// Nullable has the names of inputs, and of components as Applicant.Age, with a declared type that may still be missing or null.
 	Nullable []string
 	// Part is true if the files are a part of others: a name in Decimals that no input has belongs to one of those.
 	Part bool

@@ -40,11 +40,12 @@ func TestRequiredInputs(t *testing.T) {
 		if got := fmt.Sprint(report.Result.Required); got != it.due {
 			t.Errorf("with %q nullable: %s, and %s is due", it.nullable, got, it.due)
 		}
-		if err := report.Result.UnknownNullable(it.nullable); err != nil {
+		if err := report.Result.UnknownNullable(); err != nil {
 			t.Error(err)
 		}
-		if err := report.Result.UnknownNullable([]string{"nobody"}); err == nil || !strings.Contains(err.Error(), "a number") {
-			t.Errorf("an unknown name: %v", err)
-		}
+	}
+	report := Run([]*dmn.File{file}, Options{Nullable: []string{"has", "nobody"}})
+	if err := report.Result.UnknownNullable(); err == nil || !strings.Contains(err.Error(), "nobody") || !strings.Contains(err.Error(), "a number") {
+		t.Errorf("an unknown name: %v", err)
 	}
 }

@@ -199,8 +199,9 @@ func (r *run) report() *Report {
 		report.Refusals = r.reported()
 		return report
 	}
-	result.Required = requiredInputs(g, r.options.Nullable)
-	result.Domains = domains(g, result.Required)
+	nullable, unknown := g.nullablePaths(r.options.Nullable)
+	promises := g.promises(nullable)
+	result.Required, result.Domains, result.unknownNullable = required(promises), domains(promises, g.offsets.tick), unknown
 	if r.options.Service == "" && len(services) == 0 && len(g.decisions) <= mostDecisions {
 		defaultServices(g, result)
 	}

@@ -182,7 +182,7 @@ type analysis struct {
 
 // tables returns a model's tables checked, once.
 func (s *Service) tables(ctx context.Context, model *served) (analysed, error) {
-	if !s.hasTables {
+	if !s.knows.Tables {
 		return analysed{Missing: missingEngine}, nil
 	}
 	it := &model.analysis
@@ -204,20 +204,23 @@ func (s *Service) tables(ctx context.Context, model *served) (analysed, error) {
 	if err == nil {
 		it.found, err = tell.TableLines(model.source.Text, found)
 	}
-	if err == nil && s.hasGives {
+	if err == nil && s.knows.Gives {
 		it.gives = s.gives(ctx, model, text)
 	}
 	return analysed{Tables: it.found, Gives: it.gives}, err
 }
 
-// withDomains returns a model's text with the domains of its inputs, if there are any and the engine reads them.
+// withDomains returns a model's text with the domains of its inputs and their components, if there are any, as far as the engine reads them.
 func (s *Service) withDomains(source *Source) ([]byte, error) {
-	if !s.hasGives || len(source.Domains) == 0 {
+	if !s.knows.Gives || len(source.Domains) == 0 {
 		return source.Text, nil
 	}
 	text, err := plainJSON(imported{Model: source.Text, Domains: source.Domains})
 	if err != nil {
 		return nil, fmt.Errorf("writing the domains: %w", err)
+	}
+	if !s.knows.Paths {
+		text, _ = engine.WithoutPaths(text)
 	}
 	return text, nil
 }

@@ -18,6 +18,7 @@ import (
 
 	"gateway/openapi"
 	"gateway/page"
+	"gateway/types"
 )
 
 // servicesPath comes before the name of a service; listStart is the path of their list.
@@ -287,9 +288,13 @@ func (s *Service) openAPIPath(w http.ResponseWriter, r *http.Request) {
 	for _, form := range model.lawful.Services {
 		service := openapi.Service{Name: model.nameOf(form.Name), Strict: model.isStrict, Result: model.resultSchema(form.Name)}
 		known := model.services[form.Name].ofCallers()
+		var needs map[string]*types.Needs
+		if known.isStrict {
+			needs = model.needs
+		}
 		for _, word := range model.services[form.Name].inputs {
 			service.Inputs = append(service.Inputs, openapi.Input{Name: model.nameOf(word), Schema: model.schema(word),
-				Required: model.isStrict && isOneOf(word, known.required), NotNull: known.notNull[word]})
+				Required: model.isStrict && isOneOf(word, known.required), NotNull: known.notNull[word], Needs: model.namedNeeds(needs[word])})
 		}
 		services = append(services, service)
 	}
@@ -300,6 +305,14 @@ func (s *Service) openAPIPath(w http.ResponseWriter, r *http.Request) {
 	}
 	w.Header()["Desk-Model"] = model.sum
 	writeJSON(w, http.StatusOK, page)
+}
+
+// namedNeeds returns what an input has to have, in the file's names.
+func (m *served) namedNeeds(of *types.Needs) (all []openapi.Need) {
+	of.Each(func(word string, within *types.Needs) {
+		all = append(all, openapi.Need{Name: m.nameOf(word), Within: m.namedNeeds(within)})
+	})
+	return all
 }
 
 // longAnswer is the most bytes of an answer that the system takes whether or not the caller reads.

@@ -58,6 +58,9 @@ func (m *served) worded(service *decisionService, text, whole []byte, members []
 	} else if p := m.values(service, whole, members); p != nil {
 		return room, p
 	}
+	if p := m.components(service, whole, members); p != nil {
+		return room, p
+	}
 	most := lines.MaxLine - lineOverhead - len(inputsKey) - len(service.tail)
 	text = lines.OneLine(text, most)
 	if len(text) > most {
@@ -88,15 +91,14 @@ func (m *served) undeclared(service *decisionService, whole []byte, members []li
 	for at, member := range members {
 		value := whole[member.Value.Start:member.Value.End]
 		if service.notNull[member.Key] && string(value) == "null" && !comesAgain(members, last, at) {
-			return problemValue.at(m.pointer("/"+lines.Token(member.Key)), fmt.Sprintf("%q is null, and the file declares its type; "+
-				"its allowed values may list null, or desk import may have --nullable", m.nameOf(member.Key)))
+			return problemValue.at(m.pointer("/"+lines.Token(member.Key)), fmt.Sprintf("%q is null, and %s", m.nameOf(member.Key), whyRequired))
 		}
 	}
 	for _, input := range service.required {
 		if !hasMember(members, last, input) {
 			why := "its type doesn't admit null"
 			if service.notNull[input] {
-				why = "the file declares its type; its allowed values may list null, or desk import may have --nullable"
+				why = whyRequired
 			}
 			return problemValue.at(m.pointer("/"+lines.Token(input)), fmt.Sprintf("%q is missing, and %s", m.nameOf(input), why))
 		}

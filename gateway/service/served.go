@@ -42,6 +42,9 @@ type served struct {
 	// ones. An input of another service is ignored.
 	isStrict bool
 	isKnown  map[string]bool
+	// required has the inputs that callers have to give by what the file says, needs the components of inputs.
+	required []string
+	needs    map[string]*types.Needs
 	// origin says where the model came from, and since when it is in force.
 	origin string
 	since  time.Time
@@ -65,8 +68,9 @@ type decisionService struct {
 	inputs, clocks []string
 	// required are the inputs whose types don't admit null.
 	required []string
-	// strict is the service as callers see it, which also requires what the file does; nil if that is no more.
-	strict *decisionService
+	// strict is the service as callers see it, which also requires what the file does; nil if that is no more. isStrict is true of it.
+	strict   *decisionService
+	isStrict bool
 	// notNull has the required inputs whose types admit null all the same.
 	notNull map[string]bool
 	// outputs are the words of its output decisions.
@@ -160,6 +164,7 @@ func (m *served) index() (err error) {
 		m.services[service.name] = service
 	}
 	m.counts = m.isCounted()
+	m.require()
 	if err := m.countParts(); err != nil {
 		return err
 	}

@@ -27,11 +27,9 @@ type Service struct {
 	version string
 	// engineHeader is the header with the engine's version.
 	engineHeader []string
-	// hasTables is true if the engine's check reports on tables.
-	hasTables bool
-	// hasGives says that it tells what services and decisions can give.
-	hasGives bool
-	pool     *engine.Pool
+	// knows is what the engine's check knows.
+	knows engine.Known
+	pool  *engine.Pool
 	// partitions answer the calls; nil where the engines do.
 	partitions Partitions
 	// recorder is nil if no journal is kept.
@@ -129,7 +127,7 @@ func newService(ctx context.Context, options Options) (*Service, error) {
 		return nil, err
 	}
 	s := &Service{options: options, version: version, engineHeader: []string{version}, statePath: options.State}
-	s.hasTables, s.hasGives = engine.HasTables(ctx, options.Engine)
+	s.knows = engine.Knows(ctx, options.Engine)
 	if options.AddressLimit == 0 {
 		s.options.AddressLimit = MaxConnections / 2
 	}

@@ -129,13 +129,13 @@ func (d *decisionService) restrict(m *served) {
 	}
 	own := *d
 	own.required, own.notNull = append([]string(nil), d.required...), map[string]bool{}
-	for _, word := range m.source.Required {
-		if d.parameters[word] && !isOneOf(word, own.required) {
+	for _, word := range m.required {
+		if d.parameters[word] && !isOneOf(word, d.required) {
 			own.required, own.notNull[word] = append(own.required, word), true
 		}
 	}
-	if len(own.notNull) > 0 {
-		d.strict = &own
+	if len(own.notNull) > 0 || len(m.needs) > 0 {
+		own.isStrict, d.strict = true, &own
 	}
 }
 

@@ -8,6 +8,8 @@ import (
 	"io"
 	"os/exec"
 	"runtime/debug"
+
+	"gateway/engine"
 )
 
 // Exit statuses of `desk check` and `desk explain`.
@@ -60,7 +62,7 @@ func (o CheckOptions) words() []string {
 
 // Check runs the engine on the model in in and writes the findings to out, in words. It returns the engine's status. It returns
 // an error if the engine could not be run; other failures are reported on errOut.
-func Check(ctx context.Context, engine string, options CheckOptions, in io.Reader, out, errOut io.Writer) (status int, err error) {
+func Check(ctx context.Context, path string, options CheckOptions, in io.Reader, out, errOut io.Writer) (status int, err error) {
 	text := bytes.NewBuffer(make([]byte, 0, mostLine+bytes.MinRead))
 	if _, err := text.ReadFrom(io.LimitReader(in, mostBytes+1)); err != nil {
 		fmt.Fprintln(errOut, "read")
@@ -68,7 +70,8 @@ func Check(ctx context.Context, engine string, options CheckOptions, in io.Reade
 	}
 	input := text.Bytes()
 	defer collectLess(len(input))()
-	output, status, err := run(ctx, engine, input, errOut, options.words()...)
+	input = withoutPaths(ctx, path, options, input, errOut)
+	output, status, err := run(ctx, path, input, errOut, options.words()...)
 	if err != nil {
 		return 0, err
 	}
@@ -90,6 +93,28 @@ func Check(ctx context.Context, engine string, options CheckOptions, in io.Reade
 		return StatusFault, nil
 	}
 	return status, nil
+}
+
+// withoutPaths returns the input without the domains of components, if there are any and the engine doesn't take such. It says so, unless
+// an import wrote them.
+func withoutPaths(ctx context.Context, path string, options CheckOptions, input []byte, errOut io.Writer) []byte {
+	if !engine.HasDomains(input) || engine.Knows(ctx, path).Paths {
+		return input
+	}
+	model, requests := input, []byte(nil)
+	if options.Requests {
+		if end := bytes.IndexByte(input, '\n'); end >= 0 {
+			model, requests = input[:end], input[end:]
+		}
+	}
+	without, left := engine.WithoutPaths(model)
+	if left == 0 {
+		return input
+	}
+	if options.Origins == nil {
+		fmt.Fprintf(errOut, "desk check: domains of components are left out (%d): this engine takes those of whole inputs\n", left)
+	}
+	return append(without, requests...)
 }
 
 const (

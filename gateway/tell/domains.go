@@ -16,10 +16,11 @@ const (
 
 // Messages about a domain.
 const (
-	saidNoObject   = "no object: a domain is a text under the name of an input"
+	saidNoObject   = "no object: a domain is a text under the name of an input, or a path of one"
 	saidNoInput    = "no input of the model"
 	saidOfDecision = "a decision, and only inputs have domains"
-	saidPath       = "a path, and only inputs have domains"
+	saidNoPath     = "no path of an input: names with dots between them"
+	saidPath       = "a path, and this engine takes domains of whole inputs"
 	saidNoText     = "no text with unary tests"
 	saidConstants  = "constants alone are taken"
 )
@@ -100,22 +101,36 @@ func (r *report) domain(it domain) {
 // domainMistake says what is wrong with a domain, and what helps.
 func (f *file) domainMistake(it domain) (said, hint string) {
 	text, isText := f.doc.Text(it.part)
-	switch first, _, isPath := strings.Cut(it.name, "."); {
+	first, rest, isPath := strings.Cut(it.name, ".")
+	switch {
 	case it.isWhole:
 		return saidNoObject, ""
-	case isPath && contains(f.model.Inputs, first):
-		return saidPath, "a domain of " + first + " is taken"
-	case !contains(f.model.Inputs, it.name) && f.isDecision(it.name):
+	case !contains(f.model.Inputs, first) && f.isDecision(first):
 		return saidOfDecision, ""
-	case !contains(f.model.Inputs, it.name):
-		return saidNoInput, orNear("", nearIn(f.model.Inputs, it.name))
+	case !contains(f.model.Inputs, first):
+		return saidNoInput, orNear("", nearIn(f.model.Inputs, first))
+	case isPath && !areNames(rest):
+		return saidNoPath, ""
 	case !isText:
 		return saidNoText, ""
 	}
 	if name := nameInTests(text); name != "" {
 		return saidConstants, quoted(name) + " is a name: a text stands in quotes"
 	}
+	if _, isRead := strict.ReadTests(text); isPath && isRead {
+		return saidPath, "a domain of " + first + " is taken"
+	}
 	return saidOfText[strict.UnaryTests], ""
+}
+
+// areNames reports whether the parts of a path are names.
+func areNames(path string) bool {
+	for _, part := range strings.Split(path, ".") {
+		if !strict.IsName(part) {
+			return false
+		}
+	}
+	return true
 }
 
 func (f *file) isDecision(name string) bool {

@@ -196,8 +196,14 @@ class CodeFile:
         if self.is_public(start, item.key[1]):
             self.sources.public.append(Item(item.key, set(), {item.key}))
 
+    def impl_header(self, start: int, end: int) -> str:
+        """An impl up to its brace, without a `where`, in one line."""
+        last = next(at for at in range(start, end) if self.lines[at].endswith("{"))
+        return " ".join(it.strip() for it in self.lines[start : last + 1]).partition(" where ")[0]
+
     def read_impl(self, first: int, start: int, end: int) -> None:
-        header = self.lines[start].replace("->", "  ")
+        written = self.impl_header(start, end)
+        header = written.replace("->", "  ")
         while "<" in header:
             header = re.sub(r"<[^<>]*>", "", header)
         trait, _, name = header[len("impl") :].strip().rstrip("{ ").rpartition(" for ")
@@ -208,7 +214,7 @@ class CodeFile:
         is_exported = name in self.sources.exports[self.crate]
         for kind, method, (begins, at, last) in self.members(start, end):
             if kind == "fn":
-                names = self.contract(at, last, 4, scope) | self.types_in(self.lines[start])
+                names = self.contract(at, last, 4, scope) | self.types_in(written)
                 numbers = self.numbers(begins, self.contract_end(at, last, 4))
                 is_public = is_exported and self.lines[at].startswith("    pub fn")
                 self.add_contract(Item((self.file, f"{name}::{method}"), numbers, names), is_public)

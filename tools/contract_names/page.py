@@ -24,16 +24,16 @@ CALLS = {
 INTRODUCTION = """
 # What has to be believed
 
-This page lists what the promises rest on; `tools/trust` writes it from the sources.
+What the promises rest on, as `tools/trust` finds it in the sources.
 
 A proof shows that a function does what its contract says, not that this was meant: read the contract and the
-definitions it uses, listed below, lowest crate first and what is used before what uses it. Nothing else has
+definitions it uses, listed below, what is used before what uses it. Nothing else has
 to be read. Wrong code and wrong proofs fail the check. Apart from these, trust the toolchain
 (prover, compiler, the ported libraries' own statements), the C library and the operating system. `./desk` hands `serve`
 and `replay` over to `dist/desk`: trust its builder, or build it.
 
 Begin with `Broker::run`, which [PROMISES.md](PROMISES.md#one-contract-explained) explains. `specs/*.antt` has
-definitions; `src/*.rt` has types, the models by which contracts see them, and traits.
+definitions, `src/*.rt` types, the models by which contracts see them, and traits.
 
 ```console
 $ tools/trust --lines Broker::run | tail -2
@@ -41,8 +41,7 @@ crates/box_core/src/broker.rt: 24-31, 35-39
     Broker Model for Broker
 ```
 
-This prints each file's lines and names. `tools/trust --why NAME` says what reaches
-NAME.
+It prints each file's lines and names; `tools/trust --why NAME` what reaches NAME.
 
 **How the list was made.** The script follows names: from a contract to definitions, and to the names in them, from a
 type to its fields and model, from a trait to its ghost members and clauses. Contracts see a type's model alone, so
@@ -177,7 +176,7 @@ class Page:
 
     def files(self) -> list[str]:
         """Each file, with how many of its lines are to be read, and for which calls."""
-        lines = ["## The files", "", "Each with its lines for all calls together, and the letters of the calls that need it.", ""]
+        lines = ["## The files", "", "Each with its lines, and the letters of the calls that need it.", ""]
         for file in self.in_order(self.all):
             own = {key for key in self.all if key[0] == file}
             letters = self.letters((letter, bool(own & keys)) for letter, keys in self.called.items())

@@ -40,7 +40,8 @@ where
 // What wakes the workers.
 fn signals_of<W: Work>(workers: &Vec<Worker<W>>) -> Result<Arc<Signals>, AllocError> {
     if workers.is_empty() {
-        return Ok(Arc::new(*workers.allocator(), Signals::new(*workers.allocator()))?);
+        let signals = Signals::new(*workers.allocator())?;
+        return Ok(Arc::new(*workers.allocator(), signals)?);
     }
     Arc::try_clone(workers[0].signals())
 }

@@ -1,6 +1,6 @@
--- The domains that stand beside a model: unary tests of constants, each under the name of an input.
-use Rattle.std.specs.Prelude.{◌≡◌, ◌<◌, ◌&&◌, ℕ, List, [], ◌∷◌, ◌++◌, length, map, Bool, true, false, Option, None, Some, is_some, codes, string_bytes, if◌then◌else◌}
-use Rattle.std.specs.List.{list_all}
+-- The domains that stand beside a model: unary tests of constants, each under the name of an input, or under a path into one.
+use Rattle.std.specs.Prelude.{◌≡◌, ◌<◌, ◌&&◌, ℕ, List, [], ◌∷◌, ◌++◌, length, map, Bool, true, false, Option, None, Some, is_some, nat_eq, codes, string_bytes, if◌then◌else◌}
+use Rattle.std.specs.List.{before_first, list_all}
 use Rattle.serde_json.specs.Data.{Data, object, Members, no_members, member}
 use Rattle.serde_json.specs.Find.{as_str, get}
 use Rattle.serde_json.specs.Read.{read}
@@ -58,7 +58,7 @@ have_constants (NoneOf ts) = list_all has_constants ts
 abbrev pub domains_beside : Data → Option Data
 domains_beside d = get (codes "domains") d
 
--- the name of an input, and tests that its values meet
+-- the name of an input or a path into one, and tests that its values meet
 abbrev pub Declared : Type 0
 Declared = Name × Tests
 
@@ -77,9 +77,13 @@ constant_tests s = tests_of s >>= of_constants
 abbrev pub declared_as : Name → Data → Option Declared
 declared_as n d = as_str d >>= λ s. constant_tests s >>= λ t. Some (n, t)
 
--- what is declared of an input
+-- what stands before the first dot of a path: the name that it begins with
+abbrev pub first_name : Name → Name
+first_name n = before_first (λ c. nat_eq c 46) n
+
+-- what is declared of an input, or of a member of one
 abbrev pub declared_of : Draft → Name → Data → Option Declared
-declared_of m n d = if is_some (input_place m n) then declared_as n d else None
+declared_of m n d = if is_some (input_place m (first_name n)) then declared_as n d else None
 
 abbrev pub with_domain : Option Declared → List Declared → List Declared
 with_domain None ds = ds

@@ -3,7 +3,7 @@ ghost use Rattle.std.specs.Prelude.{◌≡◌, ◌++◌, [], ◌∷◌, None, So
 ghost use Rattle.serde_json.specs.View.{members_view, view};
 ghost use Rattle.dmn_form.specs.ModelView.{model_view};
 ghost use Rattle.dmn_names.specs.PlacedModel.{placed_model};
-ghost use Rattle.desk_checking.specs.Domains.{constant_tests as constant_tests_of, declared_as, declared_of, domain_view, domains_among, refused_among, with_domain, with_refused};
+ghost use Rattle.desk_checking.specs.Domains.{constant_tests as constant_tests_of, declared_as, declared_of, domain_view, domains_among, first_name as first_name_of, refused_among, with_domain, with_refused};
 ghost use Rattle.desk_checking.specs.DomainsView.{IsBeside, domain_views, name_views};
 
 use crate::constant::have_constants;
@@ -53,7 +53,17 @@ fn domain_as(alloc: Global, name: &str, json: &Value) -> Result<Option<Domain>, 
     Ok(Some(Domain { name, tests }))
 }
 
-/// What is declared under a name, if it is that of an input.
+/// The name that a path begins with.
+fn first_name(path: &str) -> &str
+    ensures { result.now ≡ first_name_of path.now }
+{
+    let Some(parts) = path.split_once('.') else {
+        return path;
+    };
+    parts.0
+}
+
+/// What is declared under a name or a path, if it begins with the name of an input.
 fn domain_of(
     alloc: Global,
     places: &Places,
@@ -62,7 +72,8 @@ fn domain_of(
 ) -> Result<Option<Domain>, AllocError>
     ensures { IfOk result (λ domain. option_map domain_view domain ≡ declared_of (placed_model places.now) name.now (view json.now)) }
 {
-    if places.input(name).is_none() {
+    let first = first_name(name);
+    if places.input(first).is_none() {
         return Ok(None);
     }
     let domain = domain_as(alloc, name, json)?;

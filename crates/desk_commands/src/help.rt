@@ -72,8 +72,9 @@ pub const SERVE: &str = r#"Each line is one JSON object:
   {"client":"ann","close":true}                    the client makes no more requests
   {"resize":"ann","capacity":3}                    the client has room for three requests
 
-A client's answers come in the order of its lines. Before the program waits for more input, all that
-was asked for is answered. So a slow request holds up every line that is read after it.
+A client's answers come in the order of its lines, and are written while the program waits for input.
+A slow request keeps one worker. It delays other clients if all workers are kept, or if a line has to
+wait for it: one past its client's capacity, or its client's next refusal, close or resize.
 
 Example:
   desk serve --workers 4 < examples/clients.jsonl
@@ -87,7 +88,8 @@ docs/LINES.md in the repository has every line and its answers, docs/MODEL.md wh
 pub const CHECK: &str =
     r#"Reads one model in JSON of any layout: the model itself, or {"model":M} as in a line of serve. With
 --requests it is the first line, and lines of requests follow as in serve. Domains beside the model say
-what may come, as {"model":M,"domains":{"age":"[0..120]"}}: unary tests of constants.
+what may come to an input or a path of an input, as {"model":M,"domains":{"age":"[0..120]"}}: unary
+tests of constants.
 
 Writes lines of JSON. The first is {"lawful":true,..} with the inputs, the decisions with their kinds and
 the services with their parameters, or {"fault":F}. After a fault come its places and those of later

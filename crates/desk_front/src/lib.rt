@@ -4,6 +4,6 @@
 
 pub use desk_checking::{CheckFault, CheckFindings, CheckOptions, RefusedLine, Word, check};
 pub use desk_explaining::{ExplainOptions, explain};
-pub use desk_lines::{Counted, FrontFault, Sink, Source, write_all};
+pub use desk_lines::{Counted, FrontFault, Input, ReadAhead, Sink, Source, write_all};
 pub use desk_replaying::replay;
 pub use desk_serving::{Options, serve, serve_marked};

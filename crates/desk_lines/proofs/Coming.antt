@@ -5,7 +5,7 @@ use Rattle.std.proofs.Math.Dec.{eqb-suc-zero}
 use Rattle.std.specs.Io.KnownBytes.{Consumes, IsAtEnd, Appends, Keeps}
 use Rattle.std.proofs.lemmas.List.Folds.{list_any-append}
 use Rattle.std.proofs.lemmas.Grind.{common_steps}
-use Rattle.desk_lines.specs.declared.lines.Next.TheVariants.{Line, Last, End}
+use Rattle.desk_lines.specs.declared.lines.Next.TheVariants.{Line, Last, End, Open}
 use Rattle.desk_lines.specs.Lines.{newline, kept_line, longer, heard, max_input, max_line, IsOneLine}
 use Rattle.desk_lines.specs.Device.{counted, grown}
 use Rattle.desk_lines.specs.LineReader.{Comes, IsInStep, Took}
@@ -111,13 +111,14 @@ pub record Partway (left left' : Option (List ℕ)) (came came' : ℕ) (text res
   pub one : IsOneLine line
   pub keeps : kept ≡ kept_line line
 
-pub partway_start : (left : Option (List ℕ)) (came : ℕ) (text : List ℕ) (kept : Option (List ℕ)) → kept ≡ Some [] → Partway left left came came text text kept
-partway_start left came text kept e = record {
-  line = [];
+-- a line has a beginning
+pub partway_start : (left : Option (List ℕ)) (came : ℕ) (begun text : List ℕ) (kept : Option (List ℕ)) → IsOneLine begun → kept ≡ kept_line begun → Partway left left came came (begun ++ text) text kept
+partway_start left came begun text kept h e = record {
+  line = begun;
   bytes = [];
   comes = record { taken = Consumes-none left; count = omega arith };
-  cut = grind (arith, common_steps);
-  one = refl;
+  cut = ap (λ t. (begun ++ text) ++ t) (take-nil (max_input - came)) ∙ append-nil (begun ++ text);
+  one = h;
   keeps = e;
 }
 
@@ -157,6 +158,14 @@ partway_line {left} {left'} {came} {came'} {text} {rest} {kept} piece rest' kept
   (p.line ++ piece, IsOneLine-append p.line piece p.one h, p.cut ∙ ap (λ x. p.line ++ x) e ∙ sym (append_assoc p.line piece (newline ∷ rest')), rw p.keeps at k ∙ longer-kept p.line piece),
 )
 
+-- nothing more is at hand
+pub partway_open : {left left' : Option (List ℕ)} {came came' : ℕ} {text : List ℕ} {kept : Option (List ℕ)} (rest : List ℕ)
+    → Partway left left' came came' text [] kept → rest ≡ []
+    → (bytes : List ℕ) × Comes left left' came came' bytes × Took Open (text ++ heard came bytes) rest kept left'
+partway_open {left} {left'} {came} {came'} {text} {kept} rest p e =
+    let all : text ++ heard came p.bytes ≡ p.line = p.cut ∙ append-nil p.line in
+    (p.bytes, p.comes, (rw all p.one, e, rw all p.keeps))
+
 pub partway_last : {left left' : Option (List ℕ)} {came came' : ℕ} {text rest : List ℕ} {kept : Option (List ℕ)}
     → Partway left left' came came' text rest kept → rest ≡ [] → IsAtEnd left' → unwrap_or (option_map (λ l. length l == 0) kept) false ≡ false
     → (bytes : List ℕ) × Comes left left' came came' bytes × Took Last (text ++ heard came bytes) rest kept left'
@@ -174,6 +183,18 @@ partway_end {left} {left'} {came} {came'} {text} {rest} {kept} p e end none =
     let empty : (length p.line == 0) ≡ true = sym (empty-kept p.line) ∙ rw p.keeps at none in
     let short : length p.line ≡ 0 = grind (arith, nat_tests, empty) in
     (p.bytes, p.comes, (all ∙ no_length p.line short, e, end))
+
+-- the source is seen as it was
+pub partway_seen : {left left' left'' : Option (List ℕ)} {came came' : ℕ} {text rest : List ℕ} {kept : Option (List ℕ)}
+    → Partway left left' came came' text rest kept → left'' ≡ left' → Partway left left'' came came' text rest kept
+partway_seen {left} {left'} {left''} {came} {came'} {text} {rest} {kept} p e = rw e p
+
+-- a piece that is read is no more than what may come less
+pub less_read : (left left' : Option (List ℕ)) (came came' : ℕ) (waits bytes : List ℕ) (waits' : List ℕ) → Comes left left' came came' bytes → waits' ≡ waits ++ heard came bytes → came' ≤ max_input + 1
+    → (max_input + 1 - came') + length waits' ≤ (max_input + 1 - came) + length waits
+less_read left left' came came' waits bytes waits' h is most =
+    let size : length (heard came bytes) ≤ length bytes = omega (arith, length-take (max_input - came) bytes) in
+    omega (arith, h.count, size, most, ap length is ∙ length-append waits (heard came bytes))
 
 pub partway_same : {left left' : Option (List ℕ)} {came came' came'' : ℕ} {text rest rest' : List ℕ} {kept : Option (List ℕ)}
     → Partway left left' came came' text rest kept → came'' ≡ came' → rest' ≡ rest → Partway left left' came came'' text rest' kept

@@ -7,3 +7,5 @@ pub mod CatchingUp
 pub mod Talking
 pub mod Ending
 pub mod Keeping
+pub mod Reaching
+pub mod Left

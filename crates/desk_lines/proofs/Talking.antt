@@ -1,12 +1,12 @@
 -- Lines that were answered so far.
-use Rattle.std.proofs.Common.{◌≡◌, ℕ, ◌+◌, ◌-◌, ◌<◌, ◌≤◌, List, [], ◌∷◌, ◌++◌, length, take, refl, ap, sym, ◌∙◌, arith, append_assoc, append-nil, length-append, Option, Some, ◌≢◌, Result, Ok, Err, IfOk, IfErr, OnOk, inl, inr, IsTrue, ◌↔◌, true, false, Bool, ◌^◌}
+use Rattle.std.proofs.Common.{◌≡◌, ℕ, ◌+◌, ◌-◌, ◌<◌, ◌≤◌, List, [], ◌∷◌, ◌++◌, length, take, refl, ap, sym, ◌∙◌, arith, append_assoc, append-nil, length-append, Option, Some, ◌≢◌, Result, Ok, Err, IfOk, IfErr, OnOk, inl, inr, IsTrue, ◌↔◌, true, false, Bool, ◌^◌, subst}
 use Rattle.std.specs.List.{flat_map}
 use Rattle.std.specs.Io.KnownBytes.{Consumes, Appends}
 use Rattle.std.proofs.lemmas.Grind.{flat_map-append}
 use Rattle.desk_lines.specs.Lines.{newline, kept_line, heard, max_input, IsOneLine, ended, Splits, lines_of, whole_lines_of}
 use Rattle.desk_lines.specs.declared.fault.FrontFault.{FrontFault}
 use Rattle.desk_lines.specs.declared.fault.FrontFault.TheVariants.{Read, Write, Long, Memory}
-use Rattle.desk_lines.specs.declared.lines.Next.TheVariants.{Line, Last, End}
+use Rattle.desk_lines.specs.declared.lines.Next.TheVariants.{Line, Last, End, Open}
 use Rattle.desk_lines.specs.Answering.{SaysInPart, SaysMore}
 use Rattle.desk_lines.specs.Gathers.{Gathers, Ended}
 use Rattle.desk_lines.specs.LineReader.{Comes, IsInStep, Took}
@@ -369,6 +369,41 @@ module _ {After After' : List (List ℕ) → List (List ℕ) → Type 0} {left l
         counted = omega (arith, p.counted, length-append p.done (took.0 ∷ []));
       }
 
+-- the line that comes next has begun so, and this is how far the input is answered
+pub record Underway (After : List (List ℕ) → List (List ℕ) → Type 0) (left left' wrote wrote' : Option (List ℕ)) (came : ℕ) (kept : Option (List ℕ)) (rest waits : List ℕ) (number : ℕ) : Type 0 where
+  pub begun : List ℕ
+  pub one : IsOneLine begun
+  pub keeps : kept ≡ kept_line begun
+  pub progress : Progress After left left' wrote wrote' came (begun ++ rest) waits number
+
+module _ {After : List (List ℕ) → List (List ℕ) → Type 0} {left left' wrote wrote' : Option (List ℕ)} {came : ℕ} {rest waits : List ℕ} {number : ℕ} where
+  -- the reader is seen as it was
+  pub progress_seen : {left'' : Option (List ℕ)} → left'' ≡ left' → Progress After left left' wrote wrote' came rest waits number → Progress After left left'' wrote wrote' came rest waits number
+  progress_seen {left''} e p = rw e p
+
+  -- no line has begun
+  pub none_begun : {kept : Option (List ℕ)} → kept ≡ Some [] → Progress After left left' wrote wrote' came rest waits number → Underway After left left' wrote wrote' came kept rest waits number
+  none_begun {kept} e p = record { begun = []; one = refl; keeps = e; progress = p }
+
+  -- more of the line that has begun came, and it is open yet
+  pub still_open : {left'' kept : Option (List ℕ)} {came'' : ℕ} (p : Progress After left left' wrote wrote' came rest waits number) (bytes rest'' : List ℕ)
+      → Comes left' left'' came came'' bytes → Took Open (rest ++ heard came bytes) rest'' kept left''
+      → Underway After left left'' wrote wrote' came'' kept rest'' waits number
+  still_open {left''} {kept} {came''} p bytes rest'' h took =
+      let text = rest ++ heard came bytes in
+      let more : Progress After left left'' wrote wrote' came'' text waits number = record {
+        bytes = p.bytes ++ bytes;
+        done = p.done;
+        said = p.said;
+        comes = Comes-then left left' left'' 0 came came'' p.bytes bytes p.comes h;
+        splits = progress_text p bytes;
+        stands = p.stands;
+        gathers = p.gathers;
+        counted = p.counted;
+      } in
+      let all : text ++ rest'' ≡ text = ap (λ t. text ++ t) took.1 ∙ append-nil text in
+      record { begun = text; one = took.0; keeps = took.2; progress = subst (λ t. Progress After left left'' wrote wrote' came'' t waits number) (sym all) more }
+
 -- what is said is written
 
 module _ (Whole Part : List (List ℕ) → List (List ℕ) → Type 0) (left left' wrote wrote' : Option (List ℕ)) (text : List ℕ) where
@@ -456,16 +491,6 @@ module _ {After : List (List ℕ) → List (List ℕ) → Type 0} {left left' wr
       let size : length (heard 0 p.bytes) ≤ max_input = omega (arith, length-take (max_input - 0) p.bytes) in
       let cut : length (heard 0 p.bytes) ≡ length (flat_map ended p.done) + length rest = ap length p.splits.is ∙ length-append (flat_map ended p.done) rest in
       omega (arith, p.counted, lines_short p.done)
-
--- each line leaves less to come
-pub less_to_come : (left' left'' kept : Option (List ℕ)) (came came'' : ℕ) (rest rest'' bytes : List ℕ)
-    → Comes left' left'' came came'' bytes → Took Line (rest ++ heard came bytes) rest'' kept left'' → came'' ≤ max_input + 1
-    → (max_input + 1 - came'') + length rest'' < (max_input + 1 - came) + length rest
-less_to_come left' left'' kept came came'' rest rest'' bytes h took most =
-    let size : length (heard came bytes) ≤ length bytes = omega (arith, length-take (max_input - came) bytes) in
-    let cut : length rest + length (heard came bytes) ≡ length took.0 + (1 + length rest'') =
-    sym (length-append rest (heard came bytes)) ∙ ap length took.2 ∙ length-append took.0 (newline ∷ rest'') ∙ ap (λ n. length took.0 + n) (omega arith) in
-    omega (arith, h.count)
 
 pub on_err : {T E : Type 0} (r : Result T E) (Q : E → Type 0) → ((e : E) → r ≡ Err e → Q e) → IfErr r Q
 on_err (Ok x) Q f = tt

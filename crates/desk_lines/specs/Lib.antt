@@ -8,3 +8,6 @@ pub mod Answering
 pub mod Gathers
 pub mod Told
 pub mod Fault
+pub mod Ahead
+pub mod Stretch
+pub mod Seen

@@ -56,9 +56,10 @@ impl<'a, T: Answerer> Clerk for AtOnce<'a, T> {
         Ok(text)
     }
 
-    fn catch_up<W: Sink>(
+    fn catch_up<R: Source, W: Sink>(
         &mut self,
         _alloc: Global,
+        _reader: &mut R,
         _writer: &mut W,
         _unwritten: &mut Unwritten,
     ) -> Result<(), FrontFault> {

@@ -2,7 +2,9 @@
 ghost use Rattle.std.specs.Prelude.{◌≡◌};
 ghost use Rattle.desk_lines.specs.Device.{Reader, Reads, Writer, Writes};
 
+use bell::FrontBell;
 use std::io;
+use std::sync::Arc;
 
 /// A reader that counts its faults: each error of a read is one. At 2^64 - 1 the count stays, and so does that of the
 /// bytes that came.
@@ -17,6 +19,19 @@ pub trait Source {
     /// How many faults there were.
     fn failures(&self) -> u64
         ensures { result ≡ (seen self.now).faults };
+
+    /// From now on the bell is rung whenever a read that would have waited would answer at once. A source that can't do so does
+    /// nothing.
+    fn ring(&mut self, _bell: &Arc<FrontBell>)
+        ensures { seen self.new ≡ seen self.old }
+    {}
+
+    /// Whether a read would answer at once, where that is known.
+    fn at_hand(&mut self) -> Option<bool>
+        ensures { seen self.new ≡ seen self.old }
+    {
+        None
+    }
 }
 
 /// A writer that counts its faults: each error of a write is one, and each write of a piece that is not empty and of which

@@ -98,6 +98,8 @@ pub enum Next {
     Last,
     /// Nothing more.
     End,
+    /// Part of a line, and nothing more is at hand.
+    Open,
 }
 
 /// Where the first newline is.
@@ -166,7 +168,7 @@ pub struct LineReader {
 }
 
 impl LineReader {
-    ghost use Rattle.desk_lines.specs.LineReader.{has_newline, waiting, Comes, StaysInStep, Took};
+    ghost use Rattle.desk_lines.specs.LineReader.{has_newline, to_come, waiting, Comes, StaysInStep, Took};
 
     /// A reader to which nothing came yet.
     pub fn new(alloc: Global) -> Result<Self, AllocError>
@@ -269,20 +271,22 @@ impl LineReader {
         }
     }
 
-    /// The next line.
+    /// Reads the next line to the end of the line, which may have a beginning already. Where the source knows that no more is at
+    /// hand, the line stays open.
     pub fn next_line<R: Source>(
         &mut self,
         source: &mut R,
         line: &mut LineText,
     ) -> Result<Next, FrontFault>
         requires counts { (R.seen source.old).faults < 2 ^ 64 - 1 }
-        ensures took { IfOk result (λ next. (bytes : List ℕ)
+        ensures took { IfOk result (λ next. (begun : List ℕ) → IsOneLine begun → line.old ≡ kept_line begun → (bytes : List ℕ)
             × Comes (R.seen source.old).remaining (R.seen source.new).remaining self.old.came self.new.came bytes
-            × Took next (waiting self.old ++ heard self.old.came bytes) (waiting self.new) line.new (R.seen source.new).remaining) }
-        ensures within { IfOk result (λ next. next ≢ Next.Line → self.new.came ≤ max_input) }
-        ensures lost { IfErr result (λ e. (bytes : List ℕ)
+            × Took next ((begun ++ waiting self.old) ++ heard self.old.came bytes) (waiting self.new) line.new (R.seen source.new).remaining) }
+        ensures within { IfOk result (λ next. next ≢ Next.Line → next ≢ Next.Open → self.new.came ≤ max_input) }
+        ensures less { IfOk result (λ next. next ≢ Next.Last → next ≢ Next.End → to_come self.new < to_come self.old) }
+        ensures lost { IfErr result (λ e. (begun : List ℕ) → IsOneLine begun → line.old ≡ kept_line begun → (bytes : List ℕ)
             × Comes (R.seen source.old).remaining (R.seen source.new).remaining self.old.came self.new.came bytes
-            × (e ≢ FrontFault.Memory → IsOneLine (waiting self.old ++ heard self.old.came bytes))) }
+            × (e ≢ FrontFault.Memory → IsOneLine ((begun ++ waiting self.old) ++ heard self.old.came bytes))) }
         ensures read { (result ≡ Err FrontFault.Read) →
             ((R.seen source.old).faults < (R.seen source.new).faults) × (self.new.came ≤ max_input) }
         ensures long { (result ≡ Err FrontFault.Long) → max_input < self.new.came }
@@ -290,7 +294,6 @@ impl LineReader {
         ensures counts { (result ≢ Err FrontFault.Read) → (R.seen source.new).faults ≡ (R.seen source.old).faults }
         ensures in_step { StaysInStep (R.seen source.old).came (R.seen source.new).came self.old.came self.new.came }
     {
-        line.clear();
         'pieces: loop {
             if !self.refill(source)? {
                 let next = if line.is_empty() {
@@ -302,6 +305,9 @@ impl LineReader {
             }
             if self.take_piece(line)? {
                 return Ok(Next::Line);
+            }
+            if matches!(source.at_hand(), Some(false)) {
+                return Ok(Next::Open);
             }
         }
     }

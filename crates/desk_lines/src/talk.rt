@@ -52,14 +52,17 @@ pub trait Clerk {
         ensures fault { (result ≡ Err FrontFault.Write) → (W.seen writer.old).faults < (W.seen writer.new).faults }
         ensures counts { (result ≢ Err FrontFault.Write) → (W.seen writer.new).faults ≡ (W.seen writer.old).faults };
 
-    /// Says what it still owes. It is called before more is read, where no whole line waits.
-    fn catch_up<W: Sink>(
+    /// Says what it still owes: all of it, or what it can until a read would answer at once. It is called before more is read,
+    /// where no whole line waits.
+    fn catch_up<R: Source, W: Sink>(
         &mut self,
         alloc: Global,
+        reader: &mut R,
         writer: &mut W,
         unwritten: &mut Unwritten,
     ) -> Result<(), FrontFault>
         requires counts { (W.seen writer.old).faults < 2 ^ 64 - 1 }
+        ensures source { R.seen reader.new ≡ R.seen reader.old }
         ensures same { kept self.new ≡ kept self.old }
         ensures keeps { IsWithin (Script self.new) (Script self.old) }
         ensures said { OnOk result (SaysMore (After self.old) (After self.new)
@@ -107,15 +110,17 @@ fn answer_line<W: Sink, C: Clerk>(
     unwritten.add(writer, &text)
 }
 
-/// Unless a whole line can be answered before more is read, has the clerk say what it still owes, and writes all that waits.
-fn before_read<W: Sink, C: Clerk>(
+/// Unless a whole line can be answered before more is read, has the clerk say what it owes, and writes all that waits.
+fn before_read<R: Source, W: Sink, C: Clerk>(
     alloc: Global,
     clerk: &mut C,
     lines: &LineReader,
+    reader: &mut R,
     writer: &mut W,
     unwritten: &mut Unwritten,
 ) -> Result<(), FrontFault>
     requires counts { (W.seen writer.old).faults < 2 ^ 64 - 1 }
+    ensures source { R.seen reader.new ≡ R.seen reader.old }
     ensures same { C.kept clerk.new ≡ C.kept clerk.old }
     ensures keeps { IsWithin (C.Script clerk.new) (C.Script clerk.old) }
     ensures said { OnOk result (SaysMore (C.After clerk.old) (C.After clerk.new)
@@ -132,7 +137,7 @@ fn before_read<W: Sink, C: Clerk>(
     if lines.has_line() {
         return Ok(());
     }
-    clerk.catch_up(alloc, writer, unwritten)?;
+    clerk.catch_up(alloc, reader, writer, unwritten)?;
     unwritten.write_out(writer)
 }
 
@@ -175,12 +180,14 @@ fn answer_each<R: Source, W: Sink, C: Clerk>(
     let mut line = LineText::new(alloc);
     let mut number: u64 = 1;
     'lines: loop {
-        before_read(alloc, clerk, &lines, writer, unwritten)?;
+        before_read(alloc, clerk, &lines, reader, writer, unwritten)?;
         match lines.next_line(reader, &mut line)? {
             Next::Line => answer_line(alloc, clerk, writer, unwritten, number, &line)?,
+            Next::Open => continue,
             Next::Last => return answer_line(alloc, clerk, writer, unwritten, number, &line),
             Next::End => return Ok(()),
         }
+        line.clear();
         number += 1;
     }
 }

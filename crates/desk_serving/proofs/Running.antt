@@ -1,5 +1,5 @@
 -- How a run of the front ends.
-use Rattle.std.proofs.Common.{◌≡◌, ◌≢◌, ℕ, List, [], Option, Result, Ok, Err, OnOk, IfErr, ap, refl, inl, take, ◌∷◌, suc, map, arith}
+use Rattle.std.proofs.Common.{◌≡◌, ◌≢◌, ℕ, List, [], Option, Result, Ok, Err, OnOk, IfErr, ap, refl, subst, inl, take, ◌∷◌, suc, map, arith}
 use Rattle.dmn_plan.specs.Request.{Request}
 use Rattle.feel_value.specs.declared.feel.Outcome.{Outcome}
 use Rattle.lanes.specs.Ends.{ClientEnd}
@@ -89,6 +89,11 @@ ran_stopped Whole Part reader reader' writer writer' stops quiet = record {
   ok_within_limit = tt;
   read_within_limit = λ e. let wrong : ⊥ = cc in absurd wrong;
 }
+
+-- the same of a reader that was seen as this one before
+pub ran_from : (Whole Part : List (List ℕ) → List (List ℕ) → Type 0) (before reader reader' : Reader) (writer writer' : Writer) {X : Type 0} (end : Result X FrontFault)
+    → reader ≡ before → Ran Whole Part reader reader' writer writer' end → Ran Whole Part before reader' writer writer' end
+ran_from Whole Part before reader reader' writer writer' end same h = subst (λ seen. Ran Whole Part seen reader' writer writer' end) same h
 
 -- new lanes are booked where nothing was read
 pub new_booked : (capacity : ℕ) (clients : List (ClientEnd Request Outcome)) → AreNew capacity clients → AreBooked [] (map (λ client. lane_of client) clients) []

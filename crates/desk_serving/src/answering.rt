@@ -13,8 +13,8 @@ ghost use Rattle.desk_serving.specs.StateView.{CanBeDone, HasRoom, HearsText, Is
 use crate::deciding::DueHere;
 use crate::state::State;
 use crate::until::Until;
-use crate::waiting::hand_out_until;
-use desk_lines::{Clerk, FrontFault, LineText, Sink, Unwritten};
+use crate::waiting::{hand_out_until, hand_out_until_read};
+use desk_lines::{Clerk, FrontFault, LineText, Sink, Source, Unwritten};
 use desk_requests::{Due, Seat, decide, line_heard};
 use desk_wire::{Heard, Report, Told, Word, add_refusal, hear};
 use dmn_plan::Task;
@@ -267,19 +267,13 @@ impl<'a, C: Catalog, R: Wait> Clerk for State<'a, C, R> {
         Ok(text)
     }
 
-    fn catch_up<W: Sink>(
+    fn catch_up<S: Source, W: Sink>(
         &mut self,
         alloc: Global,
+        reader: &mut S,
         writer: &mut W,
         unwritten: &mut Unwritten,
     ) -> Result<(), FrontFault> {
-        hand_out_until(
-            self.rt,
-            alloc,
-            &mut self.lanes,
-            Until::AllWhole,
-            writer,
-            unwritten,
-        )
+        hand_out_until_read(self.rt, alloc, &mut self.lanes, reader, writer, unwritten)
     }
 }

@@ -1,5 +1,5 @@
-//! `serve`: many clients at once. Each client's answers come in the order of its lines. One that is ready is not kept back for
-//! another client's slow request; a line that is read behind that request is.
+//! `serve`: many clients at once. Each client's answers come in the order of its lines. None is kept back for another client's
+//! slow request, unless a line has to wait for that.
 #![tactic(auto)]
 
 mod answering;

@@ -1,10 +1,22 @@
 //! The front waits for answers, and wakes the workers before it does something that takes long.
+ghost use Rattle.std.specs.Prelude.{◌≡◌};
+
 use crate::named_lanes::Lanes;
+use desk_lines::Source;
 use model_marks::Catalog;
 use std::alloc::AllocError;
 use std::sync::Wait;
 
 impl<C: Catalog> Lanes<C> {
+    /// The reader rings the bell on which the front sleeps.
+    pub fn tie<R: Source>(&self, reader: &mut R)
+        ensures { R.seen reader.new ≡ R.seen reader.old }
+    {
+        if let Some(client) = self.clients.first() {
+            reader.ring(client.signals().front());
+        }
+    }
+
     /// How many answers were posted to the lanes so far.
     pub fn answers(&self) -> u64 {
         match self.clients.first() {

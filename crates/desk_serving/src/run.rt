@@ -51,6 +51,7 @@ impl<'t, 'r, 'w, C: Catalog, T: Wait, R: Source, W: Sink> Host
     ghost done = { Runs R.seen W.seen };
 
     fn run<U: Wait>(&mut self, rt: &U, crew: &Crew) -> Result<(), FrontFault> {
+        self.state.lanes.tie(self.reader);
         let ended = answer_lines(self.alloc, &mut self.state, self.reader, self.writer);
         if goes_on(&ended) {
             end_workers(rt, self.alloc, crew, &mut self.state.lanes, self.writer)?;

@@ -9,6 +9,7 @@ pub mod Equalities
 pub mod Comparisons
 pub mod Forms
 pub mod Formed
+pub mod SoundMembers
 pub mod Sound
 pub mod Walks
 pub mod SoundEntries

@@ -1,17 +1,19 @@
 -- What is answered of an expression holds of its outcome.
-use Rattle.std.proofs.Common.{◌≡◌, refl, true, false}
+use Rattle.std.proofs.Common.{◌≡◌, refl, true, false, unwrap_or}
+use Rattle.feel_value.specs.Datum.{null}
 use Rattle.feel_value.specs.Logic.{is_yes, truth_of, not_of, truth_datum}
 use Rattle.feel_value.specs.Outcome.{held}
 use Rattle.feel_value.specs.declared.feel.Outcome.TheVariants.{Is}
 use Rattle.feel_text.specs.Expr.{Expr, Exprs, none, more, Null, Boolean, Number, Text, Name, Group, Members, Call, Modulo, Not, Negate, Path, Binary, Between, If}
-use Rattle.feel_text.specs.Meaning.{Bindings, den, dens, with_values, modulo_of, call_of, path_of, operation, between_of, choice}
-use Rattle.dmn_ranges.specs.Ranges.{Scope, Fits, covers}
-use Rattle.dmn_ranges.specs.Steps.{outcomes, called, remainders, inverted, negated, paths, operated, between, branches, truths, with_two, no_parts, with_part, members_parts}
+use Rattle.feel_text.specs.Meaning.{Bindings, bound, den, dens, with_values, modulo_of, call_of, path_of, operation, between_of, choice}
+use Rattle.dmn_ranges.specs.Ranges.{Scope, Fits, covers, extent_named}
+use Rattle.dmn_ranges.specs.Steps.{outcomes, called, remainders, inverted, negated, paths, operated, between, branches, truths, with_one, with_two, no_parts, with_part, member_at, members_behind, members_parts}
 use Rattle.dmn_ranges.specs.declared.parts.Parts.{Parts}
 use Rattle.dmn_ranges.proofs.FewTexts.{has_itself}
 use Rattle.dmn_ranges.proofs.Forms.{with_one_covers, with_two_covers, branches_covers, negated_covers, remainders_cover, natural_covers, operated_covers, between_covers, inverted_covers, called_covers, paths_cover}
 use Rattle.dmn_ranges.proofs.Formed.{MembersTold, member_more, limit_along, list_told}
 use Rattle.dmn_ranges.proofs.Sizes.{none_behind}
+use Rattle.dmn_ranges.proofs.SoundMembers.{known_covers, path_known, range_within}
 use Rattle.dmn_ranges.proofs.TruthSets.{truth_told}
 
 mutual
@@ -21,7 +23,7 @@ mutual
   sound (Boolean false) xs m h = refl
   sound (Number n) xs m h = natural_covers n
   sound (Text bytes) xs m h = has_itself bytes
-  sound (Name name) xs m h = h name
+  sound (Name name) xs m h = range_within (extent_named xs name) (unwrap_or (bound name m) null) (h name)
   sound (Group e) xs m h = sound e xs m h
   sound (Members es) xs m h = list_told (members_parts no_parts es xs) (dens es m) (members_sound es xs m h no_parts)
   sound (Call f e) xs m h = with_one_covers (outcomes e xs) (den e m) (called f) (λ d. held (call_of f d)) (sound e xs m h) (called_covers f (outcomes e xs).range)
@@ -29,7 +31,9 @@ mutual
       with_two_covers (outcomes a xs) (outcomes b xs) (den a m) (den b m) remainders (λ d e. held (modulo_of d e)) (sound a xs m h) (sound b xs m h) (remainders_cover (outcomes a xs).range (outcomes b xs).range)
   sound (Not e) xs m h = with_one_covers (outcomes e xs) (den e m) inverted (λ d. Is (truth_datum (not_of (truth_of d)))) (sound e xs m h) (inverted_covers (outcomes e xs).range)
   sound (Negate e) xs m h = with_one_covers (outcomes e xs) (den e m) negated _ (sound e xs m h) (negated_covers (outcomes e xs).range)
-  sound (Path e name) xs m h = with_one_covers (outcomes e xs) (den e m) paths (λ d. held (path_of name d)) (sound e xs m h) (paths_cover name (outcomes e xs).range)
+  sound (Path e name) xs m h =
+      known_covers (member_at (Path e name) (members_behind e xs)) (with_one (outcomes e xs) paths) (den (Path e name) m) (path_known (Path e name) xs m h)
+      (with_one_covers (outcomes e xs) (den e m) paths (λ d. held (path_of name d)) (sound e xs m h) (paths_cover name (outcomes e xs).range))
   sound (Binary op a b) xs m h =
       with_two_covers (outcomes a xs) (outcomes b xs) (den a m) (den b m) (operated op) (λ d e. held (operation op d e)) (sound a xs m h) (sound b xs m h) (operated_covers op (outcomes a xs).range (outcomes b xs).range)
   sound (Between e low high) xs m h =

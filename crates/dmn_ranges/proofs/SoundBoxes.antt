@@ -18,7 +18,7 @@ use Rattle.dmn_logic.proofs.Boxes.{Named, members_step, entries_step}
 use Rattle.dmn_logic.specs.Boxed.{boxed, member_values, entry_values}
 use Rattle.dmn_logic.specs.LogicView.{logic_view, members_view, entries_view}
 use Rattle.dmn_logic.specs.declared.logic.Logic.{Logic}
-use Rattle.dmn_ranges.specs.Ranges.{Scope, Fits, lies_in, covers, null_alone, named_or, range_named}
+use Rattle.dmn_ranges.specs.Ranges.{Extent, Scope, Fits, lies_in, lies_within, covers, null_alone, named_or, extent_named, plain}
 use Rattle.dmn_ranges.specs.Steps.{limited, listed, list_of, no_parts, with_part}
 use Rattle.dmn_ranges.specs.Sizes.{no_size}
 use Rattle.dmn_ranges.specs.Tables.{some_context}
@@ -30,11 +30,12 @@ use Rattle.dmn_ranges.proofs.Forms.{limited_covers}
 use Rattle.dmn_ranges.proofs.Formed.{PartsTold, part_more}
 use Rattle.dmn_ranges.proofs.Sizes.{list_covers, none_behind, whole_fit}
 use Rattle.dmn_ranges.proofs.Joins.{or_left, or_right}
+use Rattle.dmn_ranges.proofs.SoundMembers.{plain_within}
 use Rattle.dmn_ranges.proofs.SoundRules.{context_if}
 
 -- ---- one name more
 
-named_more : (r : Range) (xs : Scope) (n : List ℕ) (s : Range) (name : List ℕ) → named_or r (xs ++ (n, s) ∷ []) name ≡ (if bytes_eq name n then s else named_or r xs name)
+named_more : (r : Extent) (xs : Scope) (n : List ℕ) (s : Extent) (name : List ℕ) → named_or r (xs ++ (n, s) ∷ []) name ≡ (if bytes_eq name n then s else named_or r xs name)
 named_more r [] n s name = refl
 named_more r (x ∷ xs) n s name = named_more (if bytes_eq name x.0 then x.1 else r) xs n s name
 
@@ -48,21 +49,21 @@ bound_more (b ∷ m) n d name =
     ap (λ o. first_some o (if bytes_eq name b.0 then Some b.1 else None)) (bound_more m n d name)
     ∙ some_first (bytes_eq name n) d (bound name m) (if bytes_eq name b.0 then Some b.1 else None)
 
-fits_by : (t : Bool) (r s : Range) (d : Datum) (o : Option Datum) → lies_in s d ≡ true → lies_in r (unwrap_or o null) ≡ true → lies_in (if t then s else r) (unwrap_or (if t then Some d else o) null) ≡ true
+fits_by : (t : Bool) (r s : Extent) (d : Datum) (o : Option Datum) → lies_within s d ≡ true → lies_within r (unwrap_or o null) ≡ true → lies_within (if t then s else r) (unwrap_or (if t then Some d else o) null) ≡ true
 fits_by true r s d o h k = h
 fits_by false r s d o h k = k
 
-fits_along : (r s : Range) (o p : Option Datum) → r ≡ s → o ≡ p → lies_in r (unwrap_or o null) ≡ true → lies_in s (unwrap_or p null) ≡ true
+fits_along : (r s : Extent) (o p : Option Datum) → r ≡ s → o ≡ p → lies_within r (unwrap_or o null) ≡ true → lies_within s (unwrap_or p null) ≡ true
 fits_along r s o p e f h =
-    let P : Range → Type 0 = λ q. lies_in q (unwrap_or p null) ≡ true in
-    let Q : Option Datum → Type 0 = λ q. lies_in r (unwrap_or q null) ≡ true in
+    let P : Extent → Type 0 = λ q. lies_within q (unwrap_or p null) ≡ true in
+    let Q : Option Datum → Type 0 = λ q. lies_within r (unwrap_or q null) ≡ true in
     subst P e (subst Q f h)
 
-pub fits_more : (xs : Scope) (m : Bindings) (n : List ℕ) (s : Range) (d : Datum) → Fits xs m → lies_in s d ≡ true → Fits (xs ++ (n, s) ∷ []) (m ++ (n, d) ∷ [])
+pub fits_more : (xs : Scope) (m : Bindings) (n : List ℕ) (s : Range) (d : Datum) → Fits xs m → lies_in s d ≡ true → Fits (xs ++ (n, plain s) ∷ []) (m ++ (n, d) ∷ [])
 fits_more xs m n s d fits h name =
-    fits_along (if bytes_eq name n then s else range_named xs name) (range_named (xs ++ (n, s) ∷ []) name) (if bytes_eq name n then Some d else bound name m) (bound name (m ++ (n, d) ∷ []))
-    (sym (named_more null_alone xs n s name)) (sym (bound_more m n d name))
-    (fits_by (bytes_eq name n) (range_named xs name) s d (bound name m) h (fits name))
+    fits_along (if bytes_eq name n then plain s else extent_named xs name) (extent_named (xs ++ (n, plain s) ∷ []) name) (if bytes_eq name n then Some d else bound name m) (bound name (m ++ (n, d) ∷ []))
+    (sym (named_more (plain null_alone) xs n (plain s) name)) (sym (bound_more m n d name))
+    (fits_by (bytes_eq name n) (extent_named xs name) (plain s) d (bound name m) (plain_within s d h) (fits name))
 
 fits_same : (xs : Scope) (m k : Bindings) → m ≡ k → Fits xs m → Fits xs k
 fits_same xs m k e f = let P : Bindings → Type 0 = λ b. Fits xs b in subst P e f
@@ -143,7 +144,7 @@ or_none true = refl
 or_none false = refl
 
 pub entries_turn : (xs : Scope) (es : List Named) (i : ℕ) (x : Named) (l k : Bool) (ys next : Scope) (o : Outcomes) → EntriesFrom xs es i l ys → x ≡ get_or es i x → i < length es → TellsBox ys (logic_view x.1) o
-    → next ≡ ys ++ (arc_str_bytes x.0, o.range) ∷ [] → k ≡ (l || o.limit) → EntriesFrom xs es (i + 1) k next
+    → next ≡ ys ++ (arc_str_bytes x.0, plain o.range) ∷ [] → k ≡ (l || o.limit) → EntriesFrom xs es (i + 1) k next
 entries_turn xs es i x l k ys next o before here more told bound joined =
     let n : List ℕ = arc_str_bytes x.0 in
     subst (λ b. EntriesFrom xs es (i + 1) b next) (sym joined)

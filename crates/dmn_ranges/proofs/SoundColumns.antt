@@ -32,8 +32,8 @@ use Rattle.dmn_service.specs.declared.plan.ServicePlan.{ServicePlan}
 use Rattle.dmn_ranges.specs.Boxes.{TellsBox}
 use Rattle.dmn_ranges.specs.Asking.{AllIn}
 use Rattle.dmn_ranges.specs.Columns.{ComeIn, ComeTo, AreInputsIn, AddsEntries, AddsMembers, AddsTables, IsWider, AreWider, TellTables, TellsEachPlace, TellsItemColumns, TellsPlaceColumns, TellsColumnsUnder, FitsIf, decision_tables, entry_tables, logic_tables, member_tables, tables_under, with_entries, with_entry}
-use Rattle.dmn_ranges.specs.Ranges.{Fits, Scope, covers, lies_in}
-use Rattle.dmn_ranges.specs.Services.{TellsFound, needs_limit, needs_scope}
+use Rattle.dmn_ranges.specs.Ranges.{Fits, Scope, covers, lies_in, plain}
+use Rattle.dmn_ranges.specs.Services.{Tells, Told, needs_limit, needs_scope}
 use Rattle.dmn_ranges.specs.Tables.{column_outcomes}
 use Rattle.dmn_ranges.specs.declared.columns.ToldTables.{ToldTables}
 use Rattle.dmn_ranges.specs.declared.outcomes.Outcomes.{Outcomes}
@@ -127,11 +127,11 @@ members_done xs bs i old cur before done =
 entries_at : (xs : List Named) (i : ℕ) (x : Named) → x ≡ get_or xs i x → i < length xs → entries_view (drop i xs) ≡ entry (arc_str_bytes x.0) (logic_view x.1) (entries_view (drop (i + 1) xs))
 entries_at xs i x e h = at_drop_more entries_view xs i x h ∙ ap (λ (y : Named). entry (arc_str_bytes y.0) (logic_view y.1) (entries_view (drop (i + 1) xs))) (sym e)
 
-entry_fits : (xs : Scope) (n : Name) (o : Outcomes) (k : Bindings) (p : Outcome) → Fits xs k → covers o p ≡ true → FitsIf (xs ++ (n, o.range) ∷ []) (value_of p >>= λ d. Some (k ++ (n, d) ∷ []))
+entry_fits : (xs : Scope) (n : Name) (o : Outcomes) (k : Bindings) (p : Outcome) → Fits xs k → covers o p ≡ true → FitsIf (xs ++ (n, plain o.range) ∷ []) (value_of p >>= λ d. Some (k ++ (n, d) ∷ []))
 entry_fits xs n o k (Is d) fits told = fits_more xs k n o.range d fits told
 entry_fits xs n o k Limit fits told = tt
 
-with_entry_fits : (xs : Scope) (n : Name) (b : Boxed Expr Table) (o : Outcomes) → TellsBox xs b o → (m : Option Bindings) → FitsIf xs m → FitsIf (xs ++ (n, o.range) ∷ []) (with_entry n b m)
+with_entry_fits : (xs : Scope) (n : Name) (b : Boxed Expr Table) (o : Outcomes) → TellsBox xs b o → (m : Option Bindings) → FitsIf xs m → FitsIf (xs ++ (n, plain o.range) ∷ []) (with_entry n b m)
 with_entry_fits xs n b o told None fits = tt
 with_entry_fits xs n b o told (Some k) fits = entry_fits xs n o k (boxed b k) fits (told k fits)
 
@@ -142,7 +142,7 @@ pub entries_begin : (xs ys : Scope) (es : List Named) (old : List (Vec Outcomes 
 entries_begin xs ys es old same = subst (λ s. EntriesFrom xs es 0 old old s) (sym same) (λ new zs rest. rest)
 
 pub entries_turn : (xs ys : Scope) (es : List Named) (i : ℕ) (x : Named) (old cur next : List (Vec Outcomes Global)) (more : Scope) (o : Outcomes) → EntriesFrom xs es i old cur ys → x ≡ get_or es i x → i < length es
-    → AddsTables ys (logic_view x.1) cur next → TellsBox ys (logic_view x.1) o → more ≡ ys ++ (arc_str_bytes x.0, o.range) ∷ [] → EntriesFrom xs es (i + 1) old next more
+    → AddsTables ys (logic_view x.1) cur next → TellsBox ys (logic_view x.1) o → more ≡ ys ++ (arc_str_bytes x.0, plain o.range) ∷ [] → EntriesFrom xs es (i + 1) old next more
 entries_turn xs ys es i x old cur next more o before here inside one told bound =
     let n : Name = arc_str_bytes x.0 in
     let b = logic_view x.1 in
@@ -166,12 +166,12 @@ needs_fit : (l : Bool) (xs : Scope) (m : Option Bindings) → NeedsTold l xs m �
 needs_fit l xs None told = tt
 needs_fit l xs (Some m) told = fits_alone xs m told
 
-pub no_logic : (items : List Item) (told : List Outcomes) (item : Item) (columns : List (Vec Outcomes Global)) → option_map logic_view item.logic ≡ None → columns ≡ [] → TellsItemColumns items told item columns
+pub no_logic : (items : List Item) (told : Told) (item : Item) (columns : List (Vec Outcomes Global)) → option_map logic_view item.logic ≡ None → columns ≡ [] → TellsItemColumns items told item columns
 no_logic items told item columns is none =
     subst (λ cs. TellsItemColumns items told item cs) (sym none)
     (subst (λ l. TellsColumnsUnder told [] (name_at items) item.needs.items l) (sym is) (λ found known. tt))
 
-pub of_item : (items : List Item) (told : List Outcomes) (item : Item) (b : Boxed Expr Table) (xs : Scope) (old new : List (Vec Outcomes Global)) → xs ≡ needs_scope (name_at items) told item.needs.items
+pub of_item : (items : List Item) (told : Told) (item : Item) (b : Boxed Expr Table) (xs : Scope) (old new : List (Vec Outcomes Global)) → xs ≡ needs_scope (name_at items) told item.needs.items
     → option_map logic_view item.logic ≡ Some b → old ≡ [] → AddsTables xs b old new → TellsItemColumns items told item new
 of_item items told item b xs old new names is none adds =
     let qs : List ℕ = item.needs.items in
@@ -180,11 +180,11 @@ of_item items told item b xs old new names is none adds =
     (subst (λ l. TellsColumnsUnder told adds.more (name_at items) qs l) (sym is)
     (λ found known.
     let m : Option Bindings = needed_at (name_at items) found qs in
-    adds.tell m (subst (λ s. FitsIf s m) (sym names) (needs_fit (needs_limit told qs) (needs_scope (name_at items) told qs) m (needs_told (name_at items) told found qs known)))))
+    adds.tell m (subst (λ s. FitsIf s m) (sym names) (needs_fit (needs_limit told.0 qs) (needs_scope (name_at items) told qs) m (needs_told (name_at items) told found qs known)))))
 
 -- ---- the places of an order
 
-at_place : (items : List Item) (q : ℕ) (x : Item) (told : List Outcomes) (columns : List (Vec Outcomes Global)) → q < length items → x ≡ get_or items q x → TellsItemColumns items told x columns → TellsPlaceColumns items told q columns
+at_place : (items : List Item) (q : ℕ) (x : Item) (told : Told) (columns : List (Vec Outcomes Global)) → q < length items → x ≡ get_or items q x → TellsItemColumns items told x columns → TellsPlaceColumns items told q columns
 at_place items q x told columns inside here asks =
     let needs : needs_at items q ≡ x.needs.items = get_or-map (λ (y : Item). y.needs.items) items q x _ inside ∙ ap (λ (y : Item). y.needs.items) (sym here) in
     let logic : logic_at items q ≡ option_map logic_view x.logic = get_or-map (λ (y : Item). option_map logic_view y.logic) items q x None inside ∙ ap (λ (y : Item). option_map logic_view y.logic) (sym here) in
@@ -192,13 +192,13 @@ at_place items q x told columns inside here asks =
     let Q : Option (Boxed Expr Table) → Type 0 = λ l. TellsColumnsUnder told columns (name_at items) x.needs.items l in
     subst P (sym needs) (subst Q (sym logic) asks)
 
-pub none_yet : (items : List Item) (told : List Outcomes) (columns : List ToldTables) → columns ≡ [] → TellsEachPlace items told columns
+pub none_yet : (items : List Item) (told : Told) (columns : List ToldTables) → columns ≡ [] → TellsEachPlace items told columns
 none_yet items told columns none k c there = absurd (nothing k c (subst (λ xs. slice_get xs k ≡ Some c) none there))
   where
     nothing : (i : ℕ) (b : ToldTables) → slice_get [] i ≡ Some b → ⊥
     nothing i b e = cc
 
-pub one_more : (items : List Item) (told : List Outcomes) (old new : List ToldTables) (x : Item) (a : ToldTables) → TellsEachPlace items told old → new ≡ old ++ a ∷ []
+pub one_more : (items : List Item) (told : Told) (old new : List ToldTables) (x : Item) (a : ToldTables) → TellsEachPlace items told old → new ≡ old ++ a ∷ []
     → a.place < length items → x ≡ get_or items a.place x → TellsItemColumns items told x a.tables.items → TellsEachPlace items told new
 one_more items told old new x a before more inside is tells k c there =
     elim (pushed_at old a c k (ap (λ xs. slice_get xs k) (sym more) ∙ there)) [
@@ -290,8 +290,8 @@ placed_among order columns k c places there = ap (λ qs. slice_get qs k) (sym pl
     among_mapped (d ∷ cs) zero e = ap (λ (x : ToldTables). Some x.place) (same_Some d c e)
     among_mapped (d ∷ cs) (suc i) e = among_mapped cs i e
 
-pub columns_told : (told : List Outcomes) (columns : List ToldTables) (m : Model Expr Table) (s : Service) (items : List Item) (plan : ServicePlan) (values : List Datum) → IsPlanOf m s items plan → HasPlacesWithin items plan
-    → length values ≡ length plan.parameters.items → TellsFound told (filled_by items plan.order.items (given_at plan.parameters.items values nothing_found)) → TellsEachPlace items told columns
+pub columns_told : (told : Told) (columns : List ToldTables) (m : Model Expr Table) (s : Service) (items : List Item) (plan : ServicePlan) (values : List Datum) → IsPlanOf m s items plan → HasPlacesWithin items plan
+    → length values ≡ length plan.parameters.items → Tells told (filled_by items plan.order.items (given_at plan.parameters.items values nothing_found)) → TellsEachPlace items told columns
     → map (λ (d : ToldTables). d.place) columns ≡ plan.order.items
     → (k : ℕ) (c : ToldTables) → slice_get columns k ≡ Some c → ComeTo c.tables.items (decision_tables (outcome_of m (zip (parameters_of s) values)) (decision_named m.decisions (name_at items c.place)))
 columns_told told columns m s items plan values is inside same tells each places k c there =
@@ -302,7 +302,7 @@ columns_told told columns m s items plan values is inside same tells each places
     let found : Found = values_in (run items plan values) in
     let P : ℕ → Type 0 = λ p. found p ≡ value_of (outcome (name_at items p)) in
     let stands = found_stands m s items plan values (run items plan values) is inside same ran in
-    let known : TellsFound told found = subst (λ (f : Found). TellsFound told f) (sym ran) tells in
+    let known : Tells told found = subst (λ (f : Found). Tells told f) (sym ran) tells in
     let needs : Each P (needs_at items q) = each_at_index (λ p. Each P (needs_at items p)) plan.order.items k q (needs_along (needs_at items) P plan.parameters.items plan.order.items is.behind stands.0 stands.1) at in
     let within : q < length items = each_at_index (λ p. p < length items) plan.order.items k q (inside_each (length items) plan.order.items inside.order) at in
     subst (λ (d : Option (Decision Expr Table)). ComeTo c.tables.items (decision_tables outcome d)) (sym (fits m items is.names is.decisions q within))

@@ -1,6 +1,7 @@
 -- What is told of the places of a plan holds of what a run finds there.
 use Rattle.std.proofs.Common.{◌≡◌, ◌∙◌, refl, sym, ap, subst, ℕ, zero, suc, ◌+◌, ◌<◌, ◌≤◌, List, [], ◌∷◌, ◌++◌, length, get_or, drop, map, append_assoc, add-one, Bool, true, false, cond, ◌||◌, Option, None, Some, option_map, unwrap_or, if◌then◌else◌, inl, inr, ◌⊎◌, arith}
 use Rattle.std.specs.Prelude.{bytes_eq, nat_eq, slice_set, ◌≢◌}
+use denote.Ref.{Bor}
 use Rattle.std.specs.List.{slice_get, zip, All}
 use Rattle.std.proofs.lemmas.Bool.Decides.{eqb_tells}
 use Rattle.std.proofs.lemmas.List.{at_drop_more, drop_all, get_or-map}
@@ -19,15 +20,17 @@ use Rattle.dmn_logic.specs.LogicView.{logic_view}
 use Rattle.dmn_service.specs.Places.{name_at, needs_at}
 use Rattle.dmn_service.specs.Run.{Found, nothing_found, kept_at, needed_at, outcome_at, filled_by, given_at, logic_at, outputs_at}
 use Rattle.dmn_service.specs.declared.plan.Item.{Item}
-use Rattle.dmn_ranges.specs.Ranges.{Scope, Fits, lies_in, covers, null_alone, named_or, range_named, AreWithin}
+use Rattle.dmn_ranges.specs.Ranges.{Extent, Members, Scope, Fits, lies_in, lie_in, lies_within, covers, null_alone, named_or, extent_named, extent_of, plain, AreWithin, members_of}
 use Rattle.dmn_ranges.specs.Steps.{given, limited}
 use Rattle.dmn_ranges.specs.Tables.{some_context}
 use Rattle.dmn_ranges.specs.Boxes.{TellsBox}
-use Rattle.dmn_ranges.specs.Services.{not_found, told_at, TellsFound, given_if, domain_at, given_told, needs_scope, needs_limit, TellsItem, TellsFilled, outputs_outcomes}
+use Rattle.dmn_ranges.specs.Services.{not_found, told_at, TellsFound, known_at, lie_if, KnowsFound, Told, Tells, given_if, domain_at, given_told, members_given, given_known, needs_scope, needs_limit, views, TellsItem, TellsFilled, outputs_outcomes}
+use Rattle.dmn_ranges.specs.Names.{members_if}
 use Rattle.dmn_ranges.specs.declared.outcomes.Outcomes.{Outcomes}
-use Rattle.dmn_ranges.specs.declared.range.Range.{Range}
+use Rattle.dmn_ranges.specs.declared.range.ParameterRange.{ParameterRange}
 use Rattle.dmn_ranges.proofs.Forms.{limited_covers}
-use Rattle.dmn_ranges.proofs.Joins.{or_left, or_right}
+use Rattle.dmn_ranges.proofs.Joins.{and_both, or_left, or_right}
+use Rattle.dmn_ranges.proofs.SoundMembers.{range_within, members_within}
 use Rattle.dmn_ranges.proofs.SoundRules.{context_if}
 
 -- ---- a place that is written
@@ -62,6 +65,19 @@ keep_told told found k o p inside tells h q =
     let P : Option Outcomes → Type 0 = λ w. covers (unwrap_or w not_found) (outcome_from Is (kept_at found k p q)) ≡ true in
     subst P (sym (get-set told k q o inside)) (kept_by (nat_eq k q) o p (slice_get told q) (found q) h (tells q))
 
+known_by : (b : Bool) (ms : Members) (p : Outcome) (w : Option Members) (f : Option Datum) → lie_if ms (value_of p) ≡ true → lie_if (unwrap_or w []) f ≡ true → lie_if (unwrap_or (cond b (Some ms) w) []) (cond b (value_of p) f) ≡ true
+known_by true ms p w f h k = h
+known_by false ms p w f h k = k
+
+pub keep_known : (known : List Members) (found : Found) (k : ℕ) (ms : Members) (p : Outcome) → k < length known → KnowsFound known found → lie_if ms (value_of p) ≡ true → KnowsFound (slice_set known k ms) (kept_at found k p)
+keep_known known found k ms p inside knows h q =
+    let P : Option Members → Type 0 = λ w. lie_if (unwrap_or w []) (kept_at found k p q) ≡ true in
+    subst P (sym (get-set known k q ms inside)) (known_by (nat_eq k q) ms p (slice_get known q) (found q) h (knows q))
+
+pub none_lie : (f : Option Datum) → lie_if [] f ≡ true
+none_lie None = refl
+none_lie (Some d) = refl
+
 pub none_told : (told : List Outcomes) → ((q : ℕ) → told_at told q ≡ not_found) → TellsFound told nothing_found
 none_told told none q = ap (λ (o : Outcomes). covers o Limit) (none q)
 
@@ -71,23 +87,37 @@ none_more [] none (suc q) = refl
 none_more (o ∷ told) none zero = none 0
 none_more (o ∷ told) none (suc q) = none_more told (λ p. none (suc p)) q
 
+pub views_at : (known : List (Option (Bor ParameterRange))) (q : ℕ) → members_if (unwrap_or (slice_get known q) None) ≡ known_at (views known) q
+views_at [] q = refl
+views_at (k ∷ known) zero = refl
+views_at (k ∷ known) (suc q) = views_at known q
+
+pub views_set : (known : List (Option (Bor ParameterRange))) (k : ℕ) (p : Option (Bor ParameterRange)) → views (slice_set known k p) ≡ slice_set (views known) k (members_if p)
+views_set [] k p = refl
+views_set (x ∷ known) zero p = refl
+views_set (x ∷ known) (suc k) p = ap (λ (ks : List Members). members_if x ∷ ks) (views_set known k p)
+
+pub views_length : (known : List (Option (Bor ParameterRange))) → length (views known) ≡ length known
+views_length [] = refl
+views_length (k ∷ known) = ap suc (views_length known)
+
 -- ---- the needs of a decision
 
 first_some_assoc : (o p q : Option Datum) → first_some (first_some o p) q ≡ first_some o (first_some p q)
 first_some_assoc None p q = refl
 first_some_assoc (Some d) p q = refl
 
-here_by : (t : Bool) (r s : Range) (v : Datum) (o : Option Datum) → lies_in s v ≡ true → lies_in r (unwrap_or o null) ≡ true → lies_in (if t then s else r) (unwrap_or (first_some (if t then Some v else None) o) null) ≡ true
+here_by : (t : Bool) (r s : Extent) (v : Datum) (o : Option Datum) → lies_within s v ≡ true → lies_within r (unwrap_or o null) ≡ true → lies_within (if t then s else r) (unwrap_or (first_some (if t then Some v else None) o) null) ≡ true
 here_by true r s v o h k = h
 here_by false r s v o h k = k
 
 -- the same behind a name that was told before
 abbrev pub FitsBehind : Scope → Bindings → Type 0
-FitsBehind xs m = (name : Name) (r : Range) (o : Option Datum) → lies_in r (unwrap_or o null) ≡ true → lies_in (named_or r xs name) (unwrap_or (first_some (bound name m) o) null) ≡ true
+FitsBehind xs m = (name : Name) (r : Extent) (o : Option Datum) → lies_within r (unwrap_or o null) ≡ true → lies_within (named_or r xs name) (unwrap_or (first_some (bound name m) o) null) ≡ true
 
-one_behind : (n : Name) (s : Range) (v : Datum) (xs : Scope) (m : Bindings) → lies_in s v ≡ true → FitsBehind xs m → FitsBehind ((n, s) ∷ xs) ((n, v) ∷ m)
+one_behind : (n : Name) (s : Extent) (v : Datum) (xs : Scope) (m : Bindings) → lies_within s v ≡ true → FitsBehind xs m → FitsBehind ((n, s) ∷ xs) ((n, v) ∷ m)
 one_behind n s v xs m h fits name r o k =
-    let P : Option Datum → Type 0 = λ p. lies_in (named_or (if bytes_eq name n then s else r) xs name) (unwrap_or p null) ≡ true in
+    let P : Option Datum → Type 0 = λ p. lies_within (named_or (if bytes_eq name n then s else r) xs name) (unwrap_or p null) ≡ true in
     subst P (sym (first_some_assoc (bound name m) (if bytes_eq name n then Some v else None) o))
     (fits name (if bytes_eq name n then s else r) (first_some (if bytes_eq name n then Some v else None) o) (here_by (bytes_eq name n) r s v o h k))
 
@@ -97,28 +127,29 @@ first_some_none (Some d) = refl
 
 pub fits_alone : (xs : Scope) (m : Bindings) → FitsBehind xs m → Fits xs m
 fits_alone xs m fits name =
-    let P : Option Datum → Type 0 = λ p. lies_in (range_named xs name) (unwrap_or p null) ≡ true in
-    subst P (first_some_none (bound name m)) (fits name null_alone None refl)
+    let P : Option Datum → Type 0 = λ p. lies_within (extent_named xs name) (unwrap_or p null) ≡ true in
+    subst P (first_some_none (bound name m)) (fits name (plain null_alone) None refl)
 
 abbrev pub NeedsTold : Bool → Scope → Option Bindings → Type 0
 NeedsTold l xs None = l ≡ true
 NeedsTold l xs (Some m) = FitsBehind xs m
 
-need_more : (n : Name) (o : Outcomes) (l : Bool) (xs : Scope) (f : Option Datum) (rest : Option Bindings) → covers o (outcome_from Is f) ≡ true → NeedsTold l xs rest
-    → NeedsTold (o.limit || l) ((n, o.range) ∷ xs) ((f >>= λ v. Some (n, v)) >>= λ y. rest >>= λ ys. Some (y ∷ ys))
-need_more n o l xs None rest h k = or_left o.limit l h
-need_more n o l xs (Some v) None h k = or_right o.limit l k
-need_more n o l xs (Some v) (Some m) h k = one_behind n o.range v xs m h k
+need_more : (n : Name) (o : Outcomes) (ms : Members) (l : Bool) (xs : Scope) (f : Option Datum) (rest : Option Bindings) → covers o (outcome_from Is f) ≡ true → lie_if ms f ≡ true → NeedsTold l xs rest
+    → NeedsTold (o.limit || l) ((n, (o.range, ms)) ∷ xs) ((f >>= λ v. Some (n, v)) >>= λ y. rest >>= λ ys. Some (y ∷ ys))
+need_more n o ms l xs None rest h g k = or_left o.limit l h
+need_more n o ms l xs (Some v) None h g k = or_right o.limit l k
+need_more n o ms l xs (Some v) (Some m) h g k = one_behind n (o.range, ms) v xs m (and_both (lies_in o.range v) (lie_in ms v) h g) k
 
-pub needs_told : (name : ℕ → Name) (told : List Outcomes) (found : Found) (qs : List ℕ) → TellsFound told found → NeedsTold (needs_limit told qs) (needs_scope name told qs) (needed_at name found qs)
+pub needs_told : (name : ℕ → Name) (told : Told) (found : Found) (qs : List ℕ) → Tells told found → NeedsTold (needs_limit told.0 qs) (needs_scope name told qs) (needed_at name found qs)
 needs_told name told found [] tells = λ n r o h. h
-needs_told name told found (q ∷ qs) tells = need_more (name q) (told_at told q) (needs_limit told qs) (needs_scope name told qs) (found q) (needed_at name found qs) (tells q) (needs_told name told found qs tells)
+needs_told name told found (q ∷ qs) tells =
+    need_more (name q) (told_at told.0 q) (known_at told.1 q) (needs_limit told.0 qs) (needs_scope name told qs) (found q) (needed_at name found qs) (tells.0 q) (tells.1 q) (needs_told name told found qs tells)
 
 decision_by : (l : Bool) (xs : Scope) (b : Boxed Expr Table) (o : Outcomes) (m : Option Bindings) → TellsBox xs b o → NeedsTold l xs m → covers (limited l o) (outcome_from (boxed b) m) ≡ true
 decision_by l xs b o None tells told = or_left l o.limit told
 decision_by l xs b o (Some m) tells told = limited_covers l o (boxed b m) (tells m (fits_alone xs m told))
 
-pub logic_told : (items : List Item) (told : List Outcomes) (item : Item) (b : Boxed Expr Table) (xs : Scope) (l : Bool) (o : Outcomes) → xs ≡ needs_scope (name_at items) told item.needs.items → l ≡ needs_limit told item.needs.items
+pub logic_told : (items : List Item) (told : Told) (item : Item) (b : Boxed Expr Table) (xs : Scope) (l : Bool) (o : Outcomes) → xs ≡ needs_scope (name_at items) told item.needs.items → l ≡ needs_limit told.0 item.needs.items
     → TellsBox xs b o → option_map logic_view item.logic ≡ Some b → TellsItem items told item (limited l o)
 logic_told items told item b xs l o names limit tells is found known =
     let qs : List ℕ = item.needs.items in
@@ -127,7 +158,7 @@ logic_told items told item b xs l o names limit tells is found known =
     let R : Bool → Type 0 = λ k. NeedsTold k (needs_scope (name_at items) told qs) (needed_at (name_at items) found qs) in
     subst P (sym is) (decision_by l xs b o (needed_at (name_at items) found qs) tells (subst Q (sym names) (subst R (sym limit) (needs_told (name_at items) told found qs known))))
 
-pub input_told : (items : List Item) (told : List Outcomes) (item : Item) → option_map logic_view item.logic ≡ None → TellsItem items told item (given null_alone)
+pub input_told : (items : List Item) (told : Told) (item : Item) → option_map logic_view item.logic ≡ None → TellsItem items told item (given null_alone)
 input_told items told item is found known =
     let P : Option (Boxed Expr Table) → Type 0 = λ logic. covers (given null_alone) (outcome_at (name_at items) found item.needs.items logic) ≡ true in
     subst P (sym is) refl
@@ -145,33 +176,47 @@ first_inside n q qs all = all 0 0 (omega arith)
 pub others_inside : (n q : ℕ) (qs : List ℕ) → All (λ p. p < n) (q ∷ qs) → All (λ p. p < n) qs
 others_inside n q qs all = λ i d h. all (suc i) d (omega (arith, h))
 
-next_drop : (xs : List Range) (i : ℕ) (r : Range) (rs : List Range) → drop i xs ≡ r ∷ rs → (slice_get xs i ≡ Some r) × (drop (suc i) xs ≡ rs)
+next_drop : (xs : List ParameterRange) (i : ℕ) (r : ParameterRange) (rs : List ParameterRange) → drop i xs ≡ r ∷ rs → (slice_get xs i ≡ Some r) × (drop (suc i) xs ≡ rs)
 next_drop [] zero r rs e = cc
 next_drop [] (suc i) r rs e = cc
 next_drop (x ∷ xs) zero r rs e = ((cc), (cc))
 next_drop (x ∷ xs) (suc i) r rs e = next_drop xs i r rs e
 
-given_sound : (n : ℕ) (domains : List Range) (i : ℕ) (rs : List Range) (qs : List ℕ) (vs : List Datum) (told : List Outcomes) (found : Found) → drop i domains ≡ rs → AreWithin rs vs → All (λ p. p < n) qs → n ≡ length told → length qs ≡ length vs
-    → TellsFound told found → TellsFound (given_told domains i qs told) (given_at qs vs found)
+given_sound : (n : ℕ) (domains : List ParameterRange) (i : ℕ) (rs : List ParameterRange) (qs : List ℕ) (vs : List Datum) (told : List Outcomes) (found : Found) → drop i domains ≡ rs → AreWithin rs vs → All (λ p. p < n) qs → n ≡ length told
+    → length qs ≡ length vs → TellsFound told found → TellsFound (given_told domains i qs told) (given_at qs vs found)
 given_sound n domains i rs [] vs told found at within all count same tells = tells
 given_sound n domains i rs (q ∷ qs) [] told found at within all count same tells = absurd (omega (arith, same))
 given_sound n domains i [] (q ∷ qs) (v ∷ vs) told found at within all count same tells = absurd within
 given_sound n domains i (r ∷ rs) (q ∷ qs) (v ∷ vs) told found at within all count same tells =
     let here = next_drop domains i r rs at in
-    let P : Option Range → Type 0 = λ o. covers (given_if o) (Is v) ≡ true in
+    let P : Option ParameterRange → Type 0 = λ o. covers (given_if o) (Is v) ≡ true in
     given_sound n domains (suc i) rs qs vs (slice_set told q (domain_at domains i)) (kept_at found q (Is v)) here.1 within.1 (others_inside n q qs all) (count ∙ sym (length_set told q (domain_at domains i))) (omega (arith, same))
-    (keep_told told found q (domain_at domains i) (Is v) (omega (arith, count, first_inside n q qs all)) tells (subst P (sym here.0) within.0))
+    (keep_told told found q (domain_at domains i) (Is v) (omega (arith, count, first_inside n q qs all)) tells (subst P (sym here.0) (range_within (extent_of r) v within.0)))
 
-pub within_length : (rs : List Range) (vs : List Datum) → AreWithin rs vs → length rs ≡ length vs
+known_sound : (n : ℕ) (domains : List ParameterRange) (i : ℕ) (rs : List ParameterRange) (qs : List ℕ) (vs : List Datum) (known : List Members) (found : Found) → drop i domains ≡ rs → AreWithin rs vs → All (λ p. p < n) qs → n ≡ length known
+    → length qs ≡ length vs → KnowsFound known found → KnowsFound (given_known domains i qs known) (given_at qs vs found)
+known_sound n domains i rs [] vs known found at within all count same knows = knows
+known_sound n domains i rs (q ∷ qs) [] known found at within all count same knows = absurd (omega (arith, same))
+known_sound n domains i [] (q ∷ qs) (v ∷ vs) known found at within all count same knows = absurd within
+known_sound n domains i (r ∷ rs) (q ∷ qs) (v ∷ vs) known found at within all count same knows =
+    let here = next_drop domains i r rs at in
+    let ms : Members = members_given (slice_get domains i) in
+    let P : Option ParameterRange → Type 0 = λ o. lie_in (members_given o) v ≡ true in
+    known_sound n domains (suc i) rs qs vs (slice_set known q ms) (kept_at found q (Is v)) here.1 within.1 (others_inside n q qs all) (count ∙ sym (length_set known q ms)) (omega (arith, same))
+    (keep_known known found q ms (Is v) (omega (arith, count, first_inside n q qs all)) knows (subst P (sym here.0) (members_within (extent_of r) v within.0)))
+
+pub within_length : (rs : List ParameterRange) (vs : List Datum) → AreWithin rs vs → length rs ≡ length vs
 within_length [] [] h = refl
 within_length [] (v ∷ vs) h = absurd h
 within_length (r ∷ rs) [] h = absurd h
 within_length (r ∷ rs) (v ∷ vs) h = ap suc (within_length rs vs h.1)
 
-pub along_sound : (items : List Item) (ps : List ℕ) (domains : List Range) (start : List Outcomes) (vs : List Datum) → ((q : ℕ) → told_at start q ≡ not_found) → length start ≡ length items → All (λ p. p < length items) ps
-    → length domains ≡ length ps → AreWithin domains vs → TellsFound (given_told domains 0 ps start) (given_at ps vs nothing_found)
-along_sound items ps domains start vs none count inside same within =
-    given_sound (length items) domains 0 domains ps vs start nothing_found refl within inside (sym count) (sym same ∙ within_length domains vs within) (none_told start none)
+pub along_sound : (items : List Item) (ps : List ℕ) (domains : List ParameterRange) (start : List Outcomes) (blank : List Members) (vs : List Datum) → ((q : ℕ) → told_at start q ≡ not_found) → length start ≡ length items
+    → length blank ≡ length items → All (λ p. p < length items) ps → length domains ≡ length ps → AreWithin domains vs → Tells (given_told domains 0 ps start, given_known domains 0 ps blank) (given_at ps vs nothing_found)
+along_sound items ps domains start blank vs none count places inside same within = (
+  given_sound (length items) domains 0 domains ps vs start nothing_found refl within inside (sym count) (sym same ∙ within_length domains vs within) (none_told start none),
+  known_sound (length items) domains 0 domains ps vs blank nothing_found refl within inside (sym places) (sym same ∙ within_length domains vs within) (λ q. refl),
+)
 
 -- ---- the outputs
 
@@ -190,11 +235,11 @@ outputs_told name told found (q ∷ p ∷ qs) tells = many_outputs (name q) (nam
 
 -- ---- the code's loops
 
-pub need_turn : (name : ℕ → Name) (told : List Outcomes) (whole old next : Scope) (qs : List ℕ) (i : ℕ) → whole ≡ old ++ needs_scope name told (drop i qs) → i < length qs
-    → next ≡ old ++ (name (get_or qs i 0), (told_at told (get_or qs i 0)).range) ∷ [] → whole ≡ next ++ needs_scope name told (drop (i + 1) qs)
+pub need_turn : (name : ℕ → Name) (told : Told) (whole old next : Scope) (qs : List ℕ) (i : ℕ) → whole ≡ old ++ needs_scope name told (drop i qs) → i < length qs
+    → next ≡ old ++ (name (get_or qs i 0), ((told_at told.0 (get_or qs i 0)).range, known_at told.1 (get_or qs i 0))) ∷ [] → whole ≡ next ++ needs_scope name told (drop (i + 1) qs)
 need_turn name told whole old next qs i so_far more bound =
     so_far ∙ at_drop_more (λ ps. old ++ needs_scope name told ps) qs i 0 more
-    ∙ sym (append_assoc old ((name (get_or qs i 0), (told_at told (get_or qs i 0)).range) ∷ []) (needs_scope name told (drop (i + 1) qs)))
+    ∙ sym (append_assoc old ((name (get_or qs i 0), ((told_at told.0 (get_or qs i 0)).range, known_at told.1 (get_or qs i 0))) ∷ []) (needs_scope name told (drop (i + 1) qs)))
     ∙ ap (λ zs. zs ++ needs_scope name told (drop (i + 1) qs)) (sym bound)
 
 or_behind : (a b c : Bool) → (a || (b || c)) ≡ ((a || b) || c)
@@ -207,7 +252,15 @@ limit_needed told whole l k qs i so_far more joined =
     ∙ or_behind l (told_at told (get_or qs i 0)).limit (needs_limit told (drop (i + 1) qs))
     ∙ ap (λ b. b || needs_limit told (drop (i + 1) qs)) (sym joined)
 
-pub give_turn : (domains : List Range) (whole old next : List Outcomes) (qs : List ℕ) (i : ℕ) (o : Outcomes) → whole ≡ given_told domains i (drop i qs) old → i < length qs → o ≡ domain_at domains i → next ≡ slice_set old (get_or qs i 0) o
+pub know_turn : (domains : List ParameterRange) (whole old next : List Members) (qs : List ℕ) (i : ℕ) (ms : Members) → whole ≡ given_known domains i (drop i qs) old → i < length qs → ms ≡ members_given (slice_get domains i)
+    → next ≡ slice_set old (get_or qs i 0) ms → whole ≡ given_known domains (i + 1) (drop (i + 1) qs) next
+know_turn domains whole old next qs i ms so_far more known kept =
+    so_far ∙ at_drop_more (λ ps. given_known domains i ps old) qs i 0 more
+    ∙ ap (λ (ks : Members). given_known domains (suc i) (drop (i + 1) qs) (slice_set old (get_or qs i 0) ks)) (sym known)
+    ∙ ap (λ ts. given_known domains (suc i) (drop (i + 1) qs) ts) (sym kept)
+    ∙ ap (λ (n : ℕ). given_known domains n (drop (i + 1) qs) next) (sym (add-one i))
+
+pub give_turn : (domains : List ParameterRange) (whole old next : List Outcomes) (qs : List ℕ) (i : ℕ) (o : Outcomes) → whole ≡ given_told domains i (drop i qs) old → i < length qs → o ≡ domain_at domains i → next ≡ slice_set old (get_or qs i 0) o
     → whole ≡ given_told domains (i + 1) (drop (i + 1) qs) next
 give_turn domains whole old next qs i o so_far more told kept =
     so_far ∙ at_drop_more (λ ps. given_told domains i ps old) qs i 0 more
@@ -215,8 +268,8 @@ give_turn domains whole old next qs i o so_far more told kept =
     ∙ ap (λ ts. given_told domains (suc i) (drop (i + 1) qs) ts) (sym kept)
     ∙ ap (λ (n : ℕ). given_told domains n (drop (i + 1) qs) next) (sym (add-one i))
 
-item_here : (items : List Item) (q : ℕ) (x : Item) (told : List Outcomes) (o : Outcomes) → q < length items → x ≡ get_or items q x → TellsItem items told x o
-    → (found : Found) → TellsFound told found → covers o (outcome_at (name_at items) found (needs_at items q) (logic_at items q)) ≡ true
+item_here : (items : List Item) (q : ℕ) (x : Item) (told : Told) (o : Outcomes) → q < length items → x ≡ get_or items q x → TellsItem items told x o
+    → (found : Found) → Tells told found → covers o (outcome_at (name_at items) found (needs_at items q) (logic_at items q)) ≡ true
 item_here items q x told o inside here tells found known =
     let needs : needs_at items q ≡ x.needs.items = get_or-map (λ (y : Item). y.needs.items) items q x _ inside ∙ ap (λ (y : Item). y.needs.items) (sym here) in
     let logic : logic_at items q ≡ option_map logic_view x.logic = get_or-map (λ (y : Item). option_map logic_view y.logic) items q x None inside ∙ ap (λ (y : Item). option_map logic_view y.logic) (sym here) in
@@ -225,27 +278,31 @@ item_here items q x told o inside here tells found known =
     subst P (sym needs) (subst Q (sym logic) (tells found known))
 
 -- what is told once all places are filled, wherever it is once those from one on are
-abbrev pub FilledFrom : List Item → List ℕ → ℕ → List Outcomes → List Outcomes → Type 0
-FilledFrom items order i start told = (more : List Outcomes) → TellsFilled items (drop i order) told more → TellsFilled items order start more
+abbrev pub FilledFrom : List Item → List ℕ → ℕ → Told → Told → Type 0
+FilledFrom items order i start told = (more : Told) → TellsFilled items (drop i order) told more → TellsFilled items order start more
 
-pub filled_begin : (items : List Item) (order : List ℕ) (start : List Outcomes) → FilledFrom items order 0 start start
+pub filled_begin : (items : List Item) (order : List ℕ) (start : Told) → FilledFrom items order 0 start start
 filled_begin items order start more rest = rest
 
 inside_told : (q n l : ℕ) → q < n → l ≡ n → q < l
 inside_told q n l inside same = omega (arith, inside, same)
 
-pub filled_turn : (items : List Item) (order : List ℕ) (i : ℕ) (x : Item) (o : Outcomes) (start told next : List Outcomes) → FilledFrom items order i start told → i < length order → get_or order i 0 < length items → length told ≡ length items
-    → x ≡ get_or items (get_or order i 0) x → TellsItem items told x o → next ≡ slice_set told (get_or order i 0) o → FilledFrom items order (i + 1) start next
-filled_turn items order i x o start told next before more inside count here tells kept later rest =
+-- a place is filled, and nothing is known of its members
+pub tells_kept : (told : Told) (found : Found) (q : ℕ) (o : Outcomes) (p : Outcome) → q < length told.0 → q < length told.1 → Tells told found → covers o p ≡ true → Tells (slice_set told.0 q o, slice_set told.1 q []) (kept_at found q p)
+tells_kept told found q o p inside within tells h = (keep_told told.0 found q o p inside tells.0 h, keep_known told.1 found q [] p within tells.1 (none_lie (value_of p)))
+
+pub filled_turn : (items : List Item) (order : List ℕ) (i : ℕ) (x : Item) (o : Outcomes) (start told next : Told) → FilledFrom items order i start told → i < length order → get_or order i 0 < length items → length told.0 ≡ length items
+    → length told.1 ≡ length items → x ≡ get_or items (get_or order i 0) x → TellsItem items told x o → next ≡ (slice_set told.0 (get_or order i 0) o, slice_set told.1 (get_or order i 0) []) → FilledFrom items order (i + 1) start next
+filled_turn items order i x o start told next before more inside count places here tells kept later rest =
     before later
     (λ found known.
     let q : ℕ = get_or order i 0 in
     let p : Outcome = outcome_at (name_at items) found (needs_at items q) (logic_at items q) in
-    let P : List ℕ → Type 0 = λ qs. TellsFound later (filled_by items qs found) in
-    let Q : List Outcomes → Type 0 = λ ts. TellsFound ts (kept_at found q p) in
+    let P : List ℕ → Type 0 = λ qs. Tells later (filled_by items qs found) in
+    let Q : Told → Type 0 = λ ts. Tells ts (kept_at found q p) in
     subst P (sym (at_drop_more (λ qs. qs) order i 0 more))
-    (rest (kept_at found q p) (subst Q (sym kept) (keep_told told found q o p (inside_told q (length items) (length told) inside count) known (item_here items q x told o inside here tells found known)))))
+    (rest (kept_at found q p) (subst Q (sym kept) (tells_kept told found q o p (inside_told q (length items) (length told.0) inside count) (inside_told q (length items) (length told.1) inside places) known (item_here items q x told o inside here tells found known)))))
 
-pub filled_done : (items : List Item) (order : List ℕ) (i : ℕ) (start told : List Outcomes) → FilledFrom items order i start told → length order ≤ i → TellsFilled items order start told
+pub filled_done : (items : List Item) (order : List ℕ) (i : ℕ) (start told : Told) → FilledFrom items order i start told → length order ≤ i → TellsFilled items order start told
 filled_done items order i start told before done =
-    before told (λ found known. (let P : List ℕ → Type 0 = λ qs. TellsFound told (filled_by items qs found) in subst P (sym (drop_all i order done)) known))
+    before told (λ found known. (let P : List ℕ → Type 0 = λ qs. Tells told (filled_by items qs found) in subst P (sym (drop_all i order done)) known))

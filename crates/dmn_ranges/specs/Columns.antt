@@ -20,10 +20,10 @@ use Rattle.dmn_service.specs.declared.plan.Item.{Item}
 use Rattle.dmn_service.specs.declared.plan.ServicePlan.{ServicePlan}
 use Rattle.dmn_ranges.specs.Asking.{AllIn}
 use Rattle.dmn_ranges.specs.Ranges.{AreWithin, Fits, Scope, lies_in}
-use Rattle.dmn_ranges.specs.Services.{TellsFound}
+use Rattle.dmn_ranges.specs.Services.{Tells, Told}
 use Rattle.dmn_ranges.specs.declared.columns.ToldTables.{ToldTables}
 use Rattle.dmn_ranges.specs.declared.outcomes.Outcomes.{Outcomes}
-use Rattle.dmn_ranges.specs.declared.range.Range.{Range}
+use Rattle.dmn_ranges.specs.declared.range.ParameterRange.{ParameterRange}
 
 -- ---- the tables that are evaluated
 
@@ -72,7 +72,7 @@ decision_tables outcome None = []
 decision_tables outcome (Some d) = tables_under d.logic (bindings_to outcome d.needs)
 
 -- For each request whose values lie in the domains: what comes to the tables of a decision is what is told of them.
-abbrev pub AreColumnsOf : List Item → ServicePlan → List Range → List ToldTables → Type 0
+abbrev pub AreColumnsOf : List Item → ServicePlan → List ParameterRange → List ToldTables → Type 0
 AreColumnsOf items plan domains columns =
     (m : Model Expr Table) (s : Service) (values : List Datum) → IsPlanOf m s items plan → AreWithin domains values
     → (k : ℕ) (c : ToldTables) → slice_get columns k ≡ Some c
@@ -117,17 +117,17 @@ abbrev pub logic_tables : Option (Boxed Expr Table) → Option Bindings → List
 logic_tables None m = []
 logic_tables (Some b) m = tables_under b m
 
-abbrev pub TellsColumnsUnder : List Outcomes → List (Vec Outcomes Global) → (ℕ → Name) → List ℕ → Option (Boxed Expr Table) → Type 0
-TellsColumnsUnder told columns name needs logic = (found : Found) → TellsFound told found → TellTables columns (logic_tables logic (needed_at name found needs))
+abbrev pub TellsColumnsUnder : Told → List (Vec Outcomes Global) → (ℕ → Name) → List ℕ → Option (Boxed Expr Table) → Type 0
+TellsColumnsUnder told columns name needs logic = (found : Found) → Tells told found → TellTables columns (logic_tables logic (needed_at name found needs))
 
-abbrev pub TellsItemColumns : List Item → List Outcomes → Item → List (Vec Outcomes Global) → Type 0
+abbrev pub TellsItemColumns : List Item → Told → Item → List (Vec Outcomes Global) → Type 0
 TellsItemColumns items told item columns = TellsColumnsUnder told columns (name_at items) item.needs.items (option_map logic_view item.logic)
 
-abbrev pub TellsPlaceColumns : List Item → List Outcomes → ℕ → List (Vec Outcomes Global) → Type 0
+abbrev pub TellsPlaceColumns : List Item → Told → ℕ → List (Vec Outcomes Global) → Type 0
 TellsPlaceColumns items told q columns = TellsColumnsUnder told columns (name_at items) (needs_at items q) (logic_at items q)
 
 -- what is told of each of these places
-abbrev pub TellsEachPlace : List Item → List Outcomes → List ToldTables → Type 0
+abbrev pub TellsEachPlace : List Item → Told → List ToldTables → Type 0
 TellsEachPlace items told columns = (k : ℕ) (c : ToldTables) → slice_get columns k ≡ Some c → TellsPlaceColumns items told c.place c.tables.items
 
 -- they stand at these places

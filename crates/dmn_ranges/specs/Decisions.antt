@@ -14,14 +14,14 @@ use Rattle.dmn_service.specs.declared.plan.Item.{Item}
 use Rattle.dmn_service.specs.declared.plan.ServicePlan.{ServicePlan}
 use Rattle.dmn_ranges.specs.Ranges.{covers, AreWithin}
 use Rattle.dmn_ranges.specs.declared.outcomes.Outcomes.{Outcomes}
-use Rattle.dmn_ranges.specs.declared.range.Range.{Range}
+use Rattle.dmn_ranges.specs.declared.range.ParameterRange.{ParameterRange}
 
 abbrev pub covered : Option Outcomes → Outcome → Bool
 covered None o = false
 covered (Some told) o = covers told o
 
 -- For each request whose values lie in the domains, the outcome of each decision is among what is told at its place.
-abbrev pub AreRangesOf : List Item → ServicePlan → List Range → List Outcomes → Type 0
+abbrev pub AreRangesOf : List Item → ServicePlan → List ParameterRange → List Outcomes → Type 0
 AreRangesOf items plan domains told =
     (m : Model Expr Table) (s : Service) (values : List Datum) → IsPlanOf m s items plan → AreWithin domains values
     → Each (λ q. covered (slice_get told q) (outcome_of m (zip (parameters_of s) values) (name_at items q)) ≡ true) plan.order.items

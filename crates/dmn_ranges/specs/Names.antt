@@ -1,19 +1,26 @@
 -- Internal: names as the code has them.
-use Rattle.std.specs.Prelude.{ℕ, ℤ, List, map, Bool, Option, None, Some, ◌≡◌, refl}
+use Rattle.std.specs.Prelude.{ℕ, ℤ, List, [], map, Bool, Option, None, Some, ◌≡◌, refl}
 use Rattle.std.specs.Coded.{Coded, coded_ℕ, coded_ℤ, coded_bool, coded_list, coded×, coded_option, code_by}
 use Rattle.std.specs.Cow.{cow_str_bytes}
+use denote.Ref.{Bor}
 use Rattle.feel_value.specs.Datum.{Datum, null}
-use Rattle.dmn_ranges.specs.Ranges.{Scope}
+use Rattle.dmn_ranges.specs.Ranges.{Members, Scope, members_of}
 use Rattle.dmn_ranges.specs.declared.interval.Interval.{Interval}
 use Rattle.dmn_ranges.specs.declared.names.Binding.{Binding}
+use Rattle.dmn_ranges.specs.declared.range.ParameterRange.{ParameterRange}
 use Rattle.dmn_ranges.specs.declared.range.Range.{Range}
 use Rattle.dmn_ranges.specs.declared.size.Size.{Size}
 use Rattle.dmn_ranges.specs.declared.texts.Texts.{Texts}
 use Rattle.dmn_ranges.specs.declared.texts.Texts.TheVariants.{Any, Few}
 use Rattle.dmn_ranges.specs.declared.texts.Word.{Word}
 
+-- what is said of the members of a parameter, if it is one
+abbrev pub members_if : Option (Bor ParameterRange) → Members
+members_if None = []
+members_if (Some p) = members_of p.now.members.items
+
 abbrev pub scope_of : List Binding → Scope
-scope_of bs = map (λ b. (cow_str_bytes b.name, b.range)) bs
+scope_of bs = map (λ b. (cow_str_bytes b.name, (b.range, members_if b.parameter))) bs
 
 abbrev pub name_of : Binding → List ℕ
 name_of b = cow_str_bytes b.name
@@ -61,5 +68,8 @@ coded_range =
     (λ p. record { nulls = (p.0).0; trues = ((p.0).1).0; falses = ((p.0).1).1; numbers = ((p.1).0).0; texts = ((p.1).0).1; lists = (((p.1).1).0).0; contexts = (((p.1).1).0).1; size = ((p.1).1).1 })
     (λ _. refl)
 
+abbrev pub coded_members : Coded Members
+coded_members = coded_list (coded× (coded_list (coded_list coded_ℕ)) coded_range)
+
 abbrev pub coded_scope : Coded Scope
-coded_scope = coded_list (coded× (coded_list coded_ℕ) coded_range)
+coded_scope = coded_list (coded× (coded_list coded_ℕ) (coded× coded_range coded_members))

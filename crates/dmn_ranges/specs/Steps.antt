@@ -1,5 +1,5 @@
 -- What each form of an expression can give, from what its parts can give.
-use Rattle.std.specs.Prelude.{ℕ, ℤ, pos, int_le, ◌-ℤ◌, List, Bool, true, false, not, ◌&&◌, ◌||◌, Option, Some, None, is_some, if◌then◌else◌}
+use Rattle.std.specs.Prelude.{ℕ, ℤ, pos, int_le, ◌-ℤ◌, List, [], ◌∷◌, Bool, true, false, not, ◌&&◌, ◌||◌, Option, Some, None, is_some, bytes_eq, if◌then◌else◌}
 use Rattle.feel_value.specs.Limits.{in_range, most_nodes}
 use Rattle.feel_text.specs.declared.expr.Operator.{Operator}
 use Rattle.feel_text.specs.declared.expr.Operator.TheVariants as operator
@@ -8,7 +8,7 @@ use Rattle.feel_text.specs.declared.expr.Function.TheVariants as function
 use Rattle.feel_text.specs.Expr as expr
 use Rattle.feel_text.specs.Expr.{Expr, Exprs, none}
 use Rattle.dmn_ranges.specs.Numbers.{least_number, most_number, sum, difference, product, absolute, remainder, has_divisor, hull, are_less, reach}
-use Rattle.dmn_ranges.specs.Ranges.{Scope, null_alone, no_texts, range_named, within}
+use Rattle.dmn_ranges.specs.Ranges.{Members, Scope, null_alone, no_texts, extent_named, within}
 use Rattle.dmn_ranges.specs.declared.bounded.Bounded.{Bounded}
 use Rattle.dmn_ranges.specs.declared.interval.Interval.{Interval}
 use Rattle.dmn_ranges.specs.declared.outcomes.Outcomes.{Outcomes}
@@ -272,6 +272,33 @@ list_of p = limited p.limit (listed p.size)
 abbrev pub context_of : Bool → Parts → Outcomes
 context_of distinct p = limited p.limit (named_parts distinct p.size)
 
+-- ---- members of what names stand for
+
+-- an expression is this path into what a name stands for; the last name of the path comes first
+abbrev pub is_path : Expr → List (List ℕ) → Bool
+is_path (expr.Name name) [] = true
+is_path (expr.Name name) (n ∷ ns) = false
+is_path (expr.Group e) ns = is_path e ns
+is_path (expr.Path e name) [] = false
+is_path (expr.Path e name) (n ∷ ns) = bytes_eq n name && is_path e ns
+is_path e ns = false
+
+-- what is said of the members of what its path leads into
+abbrev pub members_behind : Expr → Scope → Members
+members_behind (expr.Name name) xs = (extent_named xs name).1
+members_behind (expr.Group e) xs = members_behind e xs
+members_behind (expr.Path e name) xs = members_behind e xs
+members_behind e xs = []
+
+-- what is said of an expression among members
+abbrev pub member_at : Expr → Members → Option Range
+member_at e [] = None
+member_at e (m ∷ ms) = if is_path e m.0 then Some m.1 else member_at e ms
+
+abbrev pub known_or : Option Range → Outcomes → Outcomes
+known_or None o = o
+known_or (Some r) o = given r
+
 -- ---- expressions
 
 abbrev pub point : ℤ → Range
@@ -291,14 +318,14 @@ abbrev mutual
   outcomes (expr.Boolean b) xs = given (truth_values false b (not b))
   outcomes (expr.Number n) xs = natural n
   outcomes (expr.Text bytes) xs = given (text_alone bytes)
-  outcomes (expr.Name name) xs = given (range_named xs name)
+  outcomes (expr.Name name) xs = given (extent_named xs name).0
   outcomes (expr.Group e) xs = outcomes e xs
   outcomes (expr.Members es) xs = list_of (members_parts no_parts es xs)
   outcomes (expr.Call f e) xs = with_one (outcomes e xs) (called f)
   outcomes (expr.Modulo a b) xs = with_two (outcomes a xs) (outcomes b xs) remainders
   outcomes (expr.Not e) xs = with_one (outcomes e xs) inverted
   outcomes (expr.Negate e) xs = with_one (outcomes e xs) negated
-  outcomes (expr.Path e name) xs = with_one (outcomes e xs) paths
+  outcomes (expr.Path e name) xs = known_or (member_at (expr.Path e name) (members_behind e xs)) (with_one (outcomes e xs) paths)
   outcomes (expr.Binary op a b) xs = with_two (outcomes a xs) (outcomes b xs) (operated op)
   outcomes (expr.Between e low high) xs =
       with_one (outcomes e xs) (λ r. with_two (outcomes low xs) (outcomes high xs) (between r))

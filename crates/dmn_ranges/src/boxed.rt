@@ -104,7 +104,7 @@ fn bind_entries(
     for (name, logic) in entries {
         let told = box_outcomes(alloc, logic, names, steps)?;
         limit = either(limit, told.limit);
-        names.bind(alloc, name.as_str(), told.range)?;
+        names.bind(alloc, name.as_str(), told.range, None)?;
     }
     Ok(limit)
 }

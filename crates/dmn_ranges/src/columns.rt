@@ -3,12 +3,13 @@ ghost use Rattle.std.specs.Prelude.{◌≡◌, ◌<◌, IfOk, OnOk, Some, length
 ghost use Rattle.std.specs.List.{All};
 ghost use Rattle.dmn_logic.specs.LogicView.{entries_view, logic_view, members_view};
 ghost use Rattle.dmn_service.specs.Plan.{HasPlacesWithin};
+ghost use Rattle.dmn_ranges.specs.Services.{views};
 ghost use Rattle.dmn_ranges.specs.Columns.{AddsEntries, AddsMembers, AddsTables, AreColumnsOf, StandAt, TellsEachPlace, TellsItemColumns};
 
 use crate::boxed::box_outcomes;
 use crate::names::Names;
 use crate::outcomes::Outcomes;
-use crate::range::Range;
+use crate::range::ParameterRange;
 use crate::service::{needed, ranges_along};
 use crate::table::column_outcomes;
 use dmn_logic::Logic;
@@ -31,7 +32,7 @@ pub fn columns_of_service(
     alloc: Global,
     items: &[Item],
     service: &ServicePlan,
-    domains: &[Range],
+    domains: &[ParameterRange],
     steps: u64,
 ) -> Result<Vec<ToldTables>, AllocError>
     requires places { HasPlacesWithin items.now service.now }
@@ -39,9 +40,16 @@ pub fn columns_of_service(
     ensures columns { IfOk result (λ columns. AreColumnsOf items.now service.now domains.now columns.items) }
     ensures places { IfOk result (λ columns. StandAt service.now.order.items columns.items) }
 {
-    let told = ranges_along(alloc, items, service, domains, steps)?;
+    let along = ranges_along(alloc, items, service, domains, steps)?;
     let mut rest = steps;
-    let columns = columns_along(alloc, items, &service.order, &told, &mut rest)?;
+    let columns = columns_along(
+        alloc,
+        items,
+        &service.order,
+        &along.told,
+        &along.known,
+        &mut rest,
+    )?;
     Ok(columns)
 }
 
@@ -116,7 +124,7 @@ fn add_entries(
     for (name, logic) in entries {
         add_tables(alloc, logic, names, columns, steps)?;
         let told = box_outcomes(alloc, logic, names, steps)?;
-        names.bind(alloc, name.as_str(), told.range)?;
+        names.bind(alloc, name.as_str(), told.range, None)?;
     }
     Ok(())
 }
@@ -127,16 +135,17 @@ fn item_columns(
     items: &[Item],
     item: &Item,
     told: &[Outcomes],
+    known: &[Option<&ParameterRange>],
     steps: &mut u64,
 ) -> Result<Vec<Vec<Outcomes>>, AllocError>
     requires { All (λ q. q < length items.now) item.now.needs.items }
-    ensures { IfOk result (λ columns. TellsItemColumns items.now told.now item.now columns.items) }
+    ensures { IfOk result (λ columns. TellsItemColumns items.now (told.now, views known.now) item.now columns.items) }
 {
     let mut columns = Vec::new(alloc);
     let Some(logic) = &item.logic else {
         return Ok(columns);
     };
-    let mut names = needed(alloc, items, &item.needs, told)?;
+    let mut names = needed(alloc, items, &item.needs, told, known)?;
     add_tables(alloc, logic, &mut names, &mut columns, steps)?;
     Ok(columns)
 }
@@ -147,17 +156,18 @@ fn columns_along(
     items: &[Item],
     order: &[usize],
     told: &[Outcomes],
+    known: &[Option<&ParameterRange>],
     steps: &mut u64,
 ) -> Result<Vec<ToldTables>, AllocError>
     requires order { All (λ q. q < length items.now) order.now }
     requires needs { All (λ x. All (λ q. q < length items.now) x.needs.items) items.now }
-    ensures told { IfOk result (λ columns. TellsEachPlace items.now told.now columns.items) }
+    ensures told { IfOk result (λ columns. TellsEachPlace items.now (told.now, views known.now) columns.items) }
     ensures places { IfOk result (λ columns. StandAt order.now columns.items) }
 {
     let mut columns = Vec::with_capacity(alloc, order.len())?;
     for place in order {
         let place = *place;
-        let tables = item_columns(alloc, items, &items[place], told, steps)?;
+        let tables = item_columns(alloc, items, &items[place], told, known, steps)?;
         columns.push(ToldTables { place, tables })?;
     }
     Ok(columns)

@@ -9,6 +9,7 @@ ghost use Rattle.dmn_ranges.specs.Steps.{natural as natural_of, outcomes as outc
 use crate::calls::{called, paths};
 use crate::comparison::{between, inverted, operated};
 use crate::interval::Interval;
+use crate::members::{known_member, known_or};
 use crate::names::Names;
 use crate::numbers::{negated, remainders};
 use crate::outcomes::{Outcomes, either_of, when};
@@ -133,7 +134,8 @@ pub(crate) fn outcomes(expr: &Tree, names: &Names) -> Outcomes
         }
         Tree::Path(inner, _) => {
             let inner = outcomes(inner, names);
-            paths(inner.range).limited(inner.limit)
+            let others = paths(inner.range).limited(inner.limit);
+            known_or(known_member(expr, names), others)
         }
         Tree::Binary(operator, left, right) => {
             let (left, right) = (outcomes(left, names), outcomes(right, names));

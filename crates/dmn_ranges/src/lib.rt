@@ -17,6 +17,9 @@ mod domain_tests;
 mod entries;
 mod expression;
 mod interval;
+mod members;
+#[cfg(test)]
+mod members_tests;
 mod names;
 mod numbers;
 mod outcomes;
@@ -42,7 +45,7 @@ pub use domain::range_of_domain;
 pub use expression::range_of_expression;
 pub use interval::Interval;
 pub use outcomes::Outcomes;
-pub use range::{NamedRange, Range};
+pub use range::{MemberRange, NamedRange, ParameterRange, Range};
 pub use service::{
     ServiceRanges, range_of_service, ranges_of_decisions, ranges_of_service, told_at,
 };

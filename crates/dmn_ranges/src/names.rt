@@ -3,9 +3,10 @@ ghost use Rattle.std.specs.Prelude.{◌≡◌, ◌≤◌, ◌<◌, [], ◌∷◌
 ghost use Rattle.std.specs.BTreeMap.{IsUnchanged};
 ghost use Rattle.std.specs.Cow.{cow_str_bytes};
 ghost use Rattle.feel_eval.specs.Index.{place_in};
-ghost use Rattle.dmn_ranges.specs.Ranges.{range_named, scope as scope_of};
+ghost use Rattle.dmn_ranges.specs.Names.{members_if};
+ghost use Rattle.dmn_ranges.specs.Ranges.{extent_named, scope as scope_of};
 
-use crate::range::{NamedRange, Range};
+use crate::range::{NamedRange, ParameterRange, Range};
 use std::alloc::{AllocError, Global};
 use std::borrow::CowStr;
 use std::collections::BTreeMap;
@@ -13,9 +14,11 @@ use std::marker::Model;
 
 // A name with its range.
 #[derive(Drop)]
-struct Binding {
+struct Binding<'a> {
     name: CowStr<'static>,
     range: Range,
+    // The parameter that it stands for, if it does.
+    parameter: Option<&'a ParameterRange>,
     // Where the binding is that this one hides.
     hidden: Option<usize>,
 }
@@ -24,13 +27,13 @@ struct Binding {
 ///
 /// Binding a name, finding one and cutting one off take steps in proportion to the logarithm of how many names there are.
 #[derive(Drop)]
-pub(crate) struct Names {
-    bindings: Vec<Binding>,
+pub(crate) struct Names<'a> {
+    bindings: Vec<Binding<'a>>,
     // Where the last binding of each name is.
     places: BTreeMap<CowStr<'static>, usize>,
 }
 
-impl Model for Names {
+impl<'a> Model for Names<'a> {
     ghost use Rattle.std.specs.Prelude.{List, ℕ};
     ghost use Rattle.dmn_ranges.specs.Ranges.{Scope};
     ghost use Rattle.dmn_ranges.specs.Names.{coded_scope, scope_of, name_of, no_value, hidden_of};
@@ -45,9 +48,9 @@ impl Model for Names {
     ghost invariant = { λ e. IsIndexed name_of no_value hidden_of e.bindings.items (place_in e.places) };
 }
 
-impl Names {
+impl<'a> Names<'a> {
     /// No names.
-    pub(crate) fn new(alloc: Global) -> Names
+    pub(crate) fn new(alloc: Global) -> Names<'a>
         ensures { result ≡ [] }
     {
         Names {
@@ -57,19 +60,25 @@ impl Names {
     }
 
     /// These names.
-    pub(crate) fn listed(alloc: Global, names: &[NamedRange]) -> Result<Names, AllocError>
+    pub(crate) fn listed(alloc: Global, names: &[NamedRange]) -> Result<Names<'a>, AllocError>
         ensures { IfOk result (λ n. n ≡ scope_of names.now) }
     {
         let mut listed = Names::new(alloc);
         for one in names {
-            listed.bind(alloc, one.name.as_str(), one.range)?;
+            listed.bind(alloc, one.name.as_str(), one.range, None)?;
         }
         Ok(listed)
     }
 
     /// Binds a name, which hides what the name was bound to before.
-    pub(crate) fn bind(&mut self, alloc: Global, name: &str, range: Range) -> Result<(), AllocError>
-        ensures { OnOk result (self.new ≡ self.old ++ (name.now, range) ∷ []) }
+    pub(crate) fn bind(
+        &mut self,
+        alloc: Global,
+        name: &str,
+        range: Range,
+        parameter: Option<&'a ParameterRange>,
+    ) -> Result<(), AllocError>
+        ensures { OnOk result (self.new ≡ self.old ++ (name.now, (range, members_if parameter.entry)) ∷ []) }
     {
         let text = String::from_str(alloc, name)?;
         let name = CowStr::Owned(text);
@@ -77,6 +86,7 @@ impl Names {
         self.bindings.push(Binding {
             name,
             range,
+            parameter,
             hidden,
         })?;
         Ok(())
@@ -84,11 +94,21 @@ impl Names {
 
     /// What a name stands for; null where it is bound to nothing.
     pub(crate) fn range(&self, name: &str) -> Range
-        ensures { result ≡ range_named self.now name.now }
+        ensures { result ≡ (extent_named self.now name.now).0 }
     {
         match self.places.get(name) {
             Some(place) => self.bindings[*place].range,
             None => Range::null(),
+        }
+    }
+
+    /// The parameter that a name stands for, if it does.
+    pub(crate) fn parameter(&self, name: &str) -> Option<&'a ParameterRange>
+        ensures { members_if result ≡ (extent_named self.now name.now).1 }
+    {
+        match self.places.get(name) {
+            Some(place) => self.bindings[*place].parameter,
+            None => None,
         }
     }
 
@@ -109,6 +129,7 @@ impl Names {
                 let Binding {
                     name,
                     range: _,
+                    parameter: _,
                     hidden,
                 } = binding;
                 uncover(&mut self.places, name, hidden);
@@ -118,8 +139,8 @@ impl Names {
 }
 
 // Gives the name the place behind the items, where there is then room. Answers the place that it had.
-fn placed<T>(
-    items: &mut Vec<T>,
+fn placed(
+    items: &mut Vec<Binding<'_>>,
     places: &mut BTreeMap<CowStr<'static>, usize>,
     name: &CowStr<'static>,
 ) -> Result<Option<usize>, AllocError>

@@ -22,6 +22,21 @@ pub struct Range {
     pub size: Size,
 }
 
+/// What a member of a value can be.
+#[derive(Drop)]
+pub struct MemberRange {
+    /// The path to it: the names after the value's own, the last one first.
+    pub path: Vec<String>,
+    pub range: Range,
+}
+
+/// What a parameter can be, and what some of its members can be.
+#[derive(Drop)]
+pub struct ParameterRange {
+    pub range: Range,
+    pub members: Vec<MemberRange>,
+}
+
 /// What a name can stand for.
 #[derive(Drop)]
 pub struct NamedRange {

@@ -20,7 +20,7 @@ use Rattle.dmn_ranges.specs.Columns.{AreColumnsOf, AreWider, ComeTo, IsWider, St
 use Rattle.dmn_ranges.specs.Ranges.{lies_in}
 use Rattle.dmn_ranges.specs.declared.columns.ToldTables.{ToldTables}
 use Rattle.dmn_ranges.specs.declared.outcomes.Outcomes.{Outcomes}
-use Rattle.dmn_ranges.specs.declared.range.Range.{Range}
+use Rattle.dmn_ranges.specs.declared.range.ParameterRange.{ParameterRange}
 use Rattle.dmn_service.specs.Decision.{decision_named, outcome_of, parameters_of}
 use Rattle.dmn_service.specs.Places.{name_at}
 use Rattle.dmn_service.specs.declared.plan.Item.{Item}
@@ -177,7 +177,7 @@ all_placed n order cs stand all i d inside =
     let there : i < length order = omega (arith, inside, ap length stand, length-map cs place) in
     subst (λ p. p < n) (ap (λ qs. get_or qs i d.place) (sym stand) ∙ get_or-map place cs i d d.place inside) (all i d.place there)
 
-pub of_service : (text : List ℕ) (n : Name) (ds : List Domain) (items : List Item) (plan : ServicePlan) (names : List (List ℕ)) (ranges : List Range) (cs : List ToldTables) (told : ByPlace)
+pub of_service : (text : List ℕ) (n : Name) (ds : List Domain) (items : List Item) (plan : ServicePlan) (names : List (List ℕ)) (ranges : List ParameterRange) (cs : List ToldTables) (told : ByPlace)
     → IsServicePlan (read_text text) n items plan → AreParametersOf text n names → AreCovered ds names ranges → AreColumnsOf items plan ranges cs → StandAt plan.order.items cs → HasEach cs told
     → ComesFromService (read_text text) ds n items plan told
 of_service text n ds items plan names ranges cs told served named covered columns stand has =

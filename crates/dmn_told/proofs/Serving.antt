@@ -15,7 +15,7 @@ use Rattle.dmn_plan.specs.Served.{IsServicePlan}
 use Rattle.dmn_plan.specs.declared.fault.ModelFault.{ModelFault}
 use Rattle.dmn_ranges.specs.Decisions.{AreRangesOf}
 use Rattle.dmn_ranges.specs.Ranges.{AreWithin, covers}
-use Rattle.dmn_ranges.specs.declared.range.Range.{Range}
+use Rattle.dmn_ranges.specs.declared.range.ParameterRange.{ParameterRange}
 use Rattle.dmn_told.specs.Told.{AreMet, IsToldOf}
 use Rattle.dmn_told.specs.Covered.{AreCovered}
 use Rattle.dmn_told.specs.declared.domains.Domain.{Domain}
@@ -37,7 +37,7 @@ named_by text n names m s read named e =
     cc
 
 -- what the ranges of the parameters give is told of the service
-pub told_of : (text : List ℕ) (n : Name) (ds : List Domain) (t : ServiceTold) (names : List Name) (ranges : List Range) → IsServicePlan (read_text text) n t.items.now t.plan.now
+pub told_of : (text : List ℕ) (n : Name) (ds : List Domain) (t : ServiceTold) (names : List Name) (ranges : List ParameterRange) → IsServicePlan (read_text text) n t.items.now t.plan.now
     → Some names ≡ option_map parameters_of (service_in (read_text text) n) → AreCovered ds names ranges → AreRangesOf t.items.now t.plan.now ranges t.decisions.items
     → ((m : Model Expr Table) (s : Service) (values : List Datum) → IsPlanOf m s t.items.now t.plan.now → AreWithin ranges values → covers t.result (service_result m s (zip (parameters_of s) values)) ≡ true)
     → IsToldOf text n ds t

@@ -1,5 +1,5 @@
 -- What is told of a service: for all requests within the domains.
-use Rattle.std.specs.Prelude.{◌≡◌, List, [], ◌∷◌, true, bytes_eq, string_bytes, ℕ}
+use Rattle.std.specs.Prelude.{◌≡◌, List, [], ◌∷◌, reverse, true, bytes_eq, string_bytes, ℕ, ⊤}
 use Rattle.std.specs.List.{All, slice_get, zip}
 use Rattle.feel_value.specs.Datum.{Datum}
 use Rattle.feel_value.specs.Limits.{is_value}
@@ -12,13 +12,20 @@ use Rattle.dmn_plan.specs.Request.{request_result}
 use Rattle.dmn_plan.specs.Served.{IsServicePlan}
 use Rattle.dmn_ranges.specs.Decisions.{covered}
 use Rattle.dmn_ranges.specs.Domains.{meets}
-use Rattle.dmn_ranges.specs.Ranges.{covers}
+use Rattle.dmn_ranges.specs.Ranges.{covers, reached}
+use Rattle.feel_text.specs.Tests.{Tests}
+use Rattle.dmn_told.specs.Parts.{parts}
 use Rattle.dmn_told.specs.declared.domains.Domain.{Domain}
 use Rattle.dmn_told.specs.declared.told.ServiceTold.{ServiceTold}
 
--- a value of this name meets all that is declared under it
+-- Of a value of this name, what a path leads to meets the tests, if it begins with the name.
+abbrev pub IsMetAlong : List Name → Name → Tests → Datum → Type 0
+IsMetAlong [] n t v = ⊤
+IsMetAlong (p ∷ path) n t v = bytes_eq p n ≡ true → meets t (reached (reverse path) v) ≡ true
+
+-- a value of this name meets all that is declared under it, and under the paths into it
 abbrev pub IsMet : List Domain → Name → Datum → Type 0
-IsMet ds n v = All (λ d. bytes_eq (string_bytes d.name) n ≡ true → meets d.tests v ≡ true) ds
+IsMet ds n v = All (λ d. IsMetAlong (parts (string_bytes d.name)) n d.tests v) ds
 
 -- these are values of these names, and each meets what is declared
 abbrev pub AreMet : List Domain → List Name → List Datum → Type 0

@@ -2,7 +2,6 @@
 //! each client is handed the results in order. No call of an end waits for another thread.
 #![tactic(auto)]
 
-mod bell;
 mod book;
 mod client;
 mod ending;

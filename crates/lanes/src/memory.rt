@@ -1,5 +1,5 @@
 //! When a worker that found no memory for a job tries again, and when that is of no use.
-use crate::bell::Bell;
+use bell::Bell;
 use std::sync::Wait;
 use std::sync::atomic::{AtomicU64, Ordering};
 

@@ -1,5 +1,5 @@
 //! When a worker that found no place for an answer tries again.
-use crate::bell::Bell;
+use bell::Bell;
 use crossbeam_utils::CachePadded;
 use std::alloc::{AllocError, Global};
 use std::sync::Wait;

@@ -1,12 +1,12 @@
 //! How threads that have nothing to do sleep, and what wakes them. No answer rests on it.
-use crate::bell::Bell;
 use crate::marks::Marks;
 use crate::memory::Memory;
 use crate::places::Places;
+use bell::{Bell, FrontBell};
 use crossbeam_utils::CachePadded;
 use std::alloc::{AllocError, Global};
-use std::sync::Wait;
 use std::sync::atomic::{AtomicU64, Ordering};
+use std::sync::{Arc, Wait};
 
 /// For how many turns a thread that waits for few answers looks at a count before it sleeps: a little longer than it takes to
 /// wake a worker and to run a small job, so that it need not be woken itself. A turn takes some 5 ns, or 50 where a processor
@@ -74,12 +74,11 @@ pub struct Signals {
     jobs: CachePadded<Bell>,
     marks: CachePadded<Marks>,
     workers: CachePadded<Workers>,
-    answers: CachePadded<Bell>,
+    // What counted for an answer and was none was a call for the front.
+    front: Arc<FrontBell>,
     places: Places,
     // How much of what counted for a job was none, but a call for a worker.
     calls: AtomicU64,
-    // How much of what counted for an answer was none, but a call for the front.
-    notices: AtomicU64,
     // How often a worker found its ring full, and how often when the front last looked.
     full: AtomicU64,
     full_before: AtomicU64,
@@ -132,31 +131,31 @@ impl Workers {
 
 impl Signals {
     /// Nobody looks, and nobody sleeps. There are no lanes.
-    pub fn new(alloc: Global) -> Signals {
-        Signals::over(Marks::of(0), Places::new(alloc))
+    pub fn new(alloc: Global) -> Result<Signals, AllocError> {
+        Signals::over(alloc, Marks::of(0), Places::new(alloc))
     }
 
     /// The same for so many lanes.
     pub(crate) fn of_lanes(alloc: Global, lanes: u32) -> Result<Signals, AllocError> {
         let places = Places::of(alloc, lanes)?;
-        Ok(Signals::over(Marks::of(lanes), places))
+        Signals::over(alloc, Marks::of(lanes), places)
     }
 
-    fn over(marks: Marks, places: Places) -> Signals {
-        Signals {
+    fn over(alloc: Global, marks: Marks, places: Places) -> Result<Signals, AllocError> {
+        let front = Arc::new(alloc, FrontBell::new())?;
+        Ok(Signals {
             jobs: CachePadded::new(Bell::new()),
             marks: CachePadded::new(marks),
             workers: CachePadded::new(Workers::new()),
-            answers: CachePadded::new(Bell::new()),
+            front,
             places,
             calls: AtomicU64::new(0),
-            notices: AtomicU64::new(0),
             full: AtomicU64::new(0),
             full_before: AtomicU64::new(0),
             away: AtomicU64::new(0),
             wanted: AtomicU64::new(0),
             memory: Memory::new(),
-        }
+        })
     }
 
     /// How many jobs were put, and other things for which workers were woken.
@@ -241,8 +240,8 @@ impl Signals {
         let jobs = self
             .jobs()
             .saturating_sub(self.calls.load(Ordering::SeqCst));
-        let notices = self.notices.load(Ordering::SeqCst);
-        jobs.saturating_sub(self.answers().saturating_sub(notices))
+        let calls = self.front.calls();
+        jobs.saturating_sub(self.answers().saturating_sub(calls))
     }
 
     // What is no job counts for one that was put and taken.
@@ -322,14 +321,14 @@ impl Signals {
 
     /// How many answers were posted, and other things for which the front was woken.
     pub fn answers(&self) -> u64 {
-        self.answers.count()
+        self.front.answers().count()
     }
 
     /// An answer was posted, or there will be none any more: one who waits for answers is woken, unless it wants more.
     pub fn add_answer(&self) {
-        let answers = self.answers.add();
-        if answers >= self.wanted.load(Ordering::SeqCst) {
-            self.answers.wake_one();
+        let bell = self.front.answers();
+        if bell.add() >= self.wanted.load(Ordering::SeqCst) {
+            bell.wake_one();
         }
         self.memory.free();
     }
@@ -337,15 +336,13 @@ impl Signals {
     /// A worker posts no more for now: a front that waits for many answers is woken for those that are there.
     pub fn end_to_post(&self) {
         if self.wanted.load(Ordering::SeqCst) > 0 {
-            self.call_front();
+            self.front.call();
         }
     }
 
-    // Wakes a front that waits for answers, or is about to.
-    fn call_front(&self) {
-        self.notices.fetch_add(1, Ordering::SeqCst);
-        self.answers.add();
-        self.answers.wake_one();
+    /// What wakes the front.
+    pub fn front(&self) -> &Arc<FrontBell> {
+        &self.front
     }
 
     /// A worker found its ring full: the front does not wait for many answers before it has looked at the rings again.
@@ -390,28 +387,29 @@ impl Signals {
             self.await_many(rt, seen.wrapping_add(MANY));
             return;
         }
-        if self.answers.watch(seen, TURNS) > 0 {
+        if self.front.answers().watch(seen, TURNS) > 0 {
             return;
         }
         self.go_away();
-        self.answers.add_sleeper();
-        self.answers.sleep(rt, seen, LONGEST_SLEEP);
+        self.front.sleep(rt, seen, LONGEST_SLEEP);
     }
 
-    // Sleeps until so many answers were posted, or a worker posts no more for now, or an answer may lie no longer. Where they
-    // are not there by then, the jobs take long, and the front is away; but not where a ring is full.
+    // Sleeps until so many answers were posted, or the front is called, or an answer may lie no longer. Where they are not there
+    // by then, the jobs take long, and the front is away; but not where a ring is full.
     fn await_many<R: Wait>(&self, rt: &R, wanted: u64) {
         self.wanted.store(wanted, Ordering::SeqCst);
-        self.answers.add_sleeper();
-        let answers = self.answers();
+        let bell = self.front.answers();
+        bell.add_sleeper();
+        let answers = bell.count();
         if answers >= wanted || self.outstanding() == 0 || self.was_full() {
-            self.answers.end_sleep();
+            bell.end_sleep();
             self.wanted.store(0, Ordering::SeqCst);
             return;
         }
-        self.answers.sleep(rt, answers, LONGEST_GATHERING);
+        let calls = self.front.calls();
+        bell.sleep(rt, answers, LONGEST_GATHERING);
         self.wanted.store(0, Ordering::SeqCst);
-        if self.answers() < wanted && !self.was_full() {
+        if self.front.calls() == calls && self.answers() < wanted && !self.was_full() {
             self.go_away();
         }
     }
@@ -420,8 +418,8 @@ impl Signals {
     fn taken(&self) -> u64 {
         let taken = self.workers.taken.load(Ordering::SeqCst);
         let jobs = taken.saturating_sub(self.calls.load(Ordering::SeqCst));
-        let notices = self.notices.load(Ordering::SeqCst);
-        jobs.saturating_sub(self.answers().saturating_sub(notices))
+        let calls = self.front.calls();
+        jobs.saturating_sub(self.answers().saturating_sub(calls))
     }
 
     /// A worker holds a job whose run was refused memory.
@@ -438,7 +436,7 @@ impl Signals {
     pub fn add_refusal(&self) {
         self.memory.add_try();
         if self.is_starved() {
-            self.call_front();
+            self.front.call();
         }
     }
 

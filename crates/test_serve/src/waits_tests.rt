@@ -11,8 +11,15 @@ const TURNS: u64 = 3_000_000;
 
 /// Sees whether the result of b was written.
 #[derive(Drop)]
-struct Watch<'a> {
+pub struct Watch<'a> {
     seen: &'a AtomicBool,
+}
+
+impl<'a> Watch<'a> {
+    /// Notes it there.
+    pub fn new(seen: &'a AtomicBool) -> Watch<'a> {
+        Watch { seen }
+    }
 }
 
 impl io::Write for Watch<'_> {
@@ -33,9 +40,24 @@ impl io::Write for Watch<'_> {
 
 /// Holds the first request of the first client until the result of b was written, or very long.
 #[derive(Drop)]
-struct Until<'a> {
+pub struct Until<'a> {
     seen: &'a AtomicBool,
     gave_up: AtomicBool,
+}
+
+impl<'a> Until<'a> {
+    /// Sees it there.
+    pub fn new(seen: &'a AtomicBool) -> Until<'a> {
+        Until {
+            seen,
+            gave_up: AtomicBool::new(false),
+        }
+    }
+
+    /// Whether the result of b didn't come.
+    pub fn gave_up(&self) -> bool {
+        self.gave_up.load(Ordering::SeqCst)
+    }
 }
 
 impl Gate for Until<'_> {
@@ -90,11 +112,8 @@ fn one_client_does_not_keep_back_others(rt: HostRuntime) -> Result<(), Fail> {
     for lines in WAITING {
         let input = with_model(rt.alloc(), lines.as_bytes())?;
         let seen = AtomicBool::new(false);
-        let gate = Until {
-            seen: &seen,
-            gave_up: AtomicBool::new(false),
-        };
-        let writer = Watch { seen: &seen };
+        let gate = Until::new(&seen);
+        let writer = Watch::new(&seen);
         let (ended, _writer) = serve_once(
             rt.alloc(),
             &rt,
@@ -104,7 +123,7 @@ fn one_client_does_not_keep_back_others(rt: HostRuntime) -> Result<(), Fail> {
             options,
         );
         assert_eq!(rt; ended, Ended::Whole(2));
-        assert!(rt; !gate.gave_up.load(Ordering::SeqCst), "{lines}");
+        assert!(rt; !gate.gave_up(), "{lines}");
     }
     Ok(())
 }

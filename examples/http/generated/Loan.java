@@ -156,11 +156,11 @@ public class Loan {
     public record SBureauStrategyDecisionService28b2f2b0InputsApplicantData(Long age, String employmentStatus, Boolean existingCustomer, String maritalStatus, SBureauStrategyDecisionService28b2f2b0InputsApplicantDataMonthly monthly) {
         Map<String, Object> toJson() {
             Map<String, Object> made = new LinkedHashMap<>();
-            if (age != null) made.put("Age", age);
-            if (employmentStatus != null) made.put("Employment Status", employmentStatus);
-            if (existingCustomer != null) made.put("Existing Customer", existingCustomer);
-            if (maritalStatus != null) made.put("Marital Status", maritalStatus);
-            if (monthly != null) made.put("Monthly", monthly == null ? null : monthly.toJson());
+            made.put("Age", age);
+            made.put("Employment Status", employmentStatus);
+            made.put("Existing Customer", existingCustomer);
+            made.put("Marital Status", maritalStatus);
+            made.put("Monthly", monthly == null ? null : monthly.toJson());
             return made;
         }
 
@@ -178,9 +178,9 @@ public class Loan {
     public record SBureauStrategyDecisionService28b2f2b0InputsApplicantDataMonthly(Long expenses, Long income, Long repayments) {
         Map<String, Object> toJson() {
             Map<String, Object> made = new LinkedHashMap<>();
-            if (expenses != null) made.put("Expenses", expenses);
-            if (income != null) made.put("Income", income);
-            if (repayments != null) made.put("Repayments", repayments);
+            made.put("Expenses", expenses);
+            made.put("Income", income);
+            made.put("Repayments", repayments);
             return made;
         }
 

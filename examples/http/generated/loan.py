@@ -128,31 +128,31 @@ class SBureauStrategyDecisionService28b2f2b0Inputs(_Value):
 
 @dataclass
 class SBureauStrategyDecisionService28b2f2b0InputsApplicantData(_Value):
-    age: int | None = None
-    employment_status: str | None = None
-    existing_customer: bool | None = None
-    marital_status: str | None = None
-    monthly: SBureauStrategyDecisionService28b2f2b0InputsApplicantDataMonthly | None = None
+    age: int
+    employment_status: str
+    existing_customer: bool
+    marital_status: str
+    monthly: SBureauStrategyDecisionService28b2f2b0InputsApplicantDataMonthly
 
     FIELDS = {
-        "age": ("Age", False, None),
-        "employment_status": ("Employment Status", False, None),
-        "existing_customer": ("Existing Customer", False, None),
-        "marital_status": ("Marital Status", False, None),
-        "monthly": ("Monthly", False, lambda: SBureauStrategyDecisionService28b2f2b0InputsApplicantDataMonthly),
+        "age": ("Age", True, None),
+        "employment_status": ("Employment Status", True, None),
+        "existing_customer": ("Existing Customer", True, None),
+        "marital_status": ("Marital Status", True, None),
+        "monthly": ("Monthly", True, lambda: SBureauStrategyDecisionService28b2f2b0InputsApplicantDataMonthly),
     }
 
 
 @dataclass
 class SBureauStrategyDecisionService28b2f2b0InputsApplicantDataMonthly(_Value):
-    expenses: int | None = None
-    income: int | None = None
-    repayments: int | None = None
+    expenses: int
+    income: int
+    repayments: int
 
     FIELDS = {
-        "expenses": ("Expenses", False, None),
-        "income": ("Income", False, None),
-        "repayments": ("Repayments", False, None),
+        "expenses": ("Expenses", True, None),
+        "income": ("Income", True, None),
+        "repayments": ("Repayments", True, None),
     }
 
 

@@ -1,13 +1,12 @@
-use Rattle.std.proofs.Common.{◌≡◌, ℕ, ◌+◌, ◌-◌, List, length}
-use Rattle.desk_lines.specs.Lines.{max_input}
-use Rattle.desk_lines.specs.LineReader.{waiting, IsInStep}
-use Rattle.desk_lines.proofs.Talking.{Progress}
+use Rattle.std.proofs.Common.{◌≡◌, ℕ, List}
+use Rattle.desk_lines.specs.LineReader.{to_come, waiting, IsInStep}
+use Rattle.desk_lines.proofs.Talking.{Underway}
 use Rattle.desk_lines.proofs.talk.answer_each.Given as goal
 
 abbrev pub invariant-lines : goal.invariant-lines
 invariant-lines g l = record {
-  progress : Progress (g.C.Clerk.After l.clerk) (g.R.Source.seen l.initial.reader).remaining (g.R.Source.seen l.reader).remaining
-      (g.W.Sink.seen l.initial.writer).contents (g.W.Sink.seen l.writer).contents l.lines.came (waiting l.lines) l.unwritten l.number;
+  underway : Underway (g.C.Clerk.After l.clerk) (g.R.Source.seen l.initial.reader).remaining (g.R.Source.seen l.reader).remaining
+      (g.W.Sink.seen l.initial.writer).contents (g.W.Sink.seen l.writer).contents l.lines.came l.line (waiting l.lines) l.unwritten l.number;
   reads : (g.R.Source.seen l.reader).faults ≡ (g.R.Source.seen l.initial.reader).faults;
   writes : (g.W.Sink.seen l.writer).faults ≡ (g.W.Sink.seen l.initial.writer).faults;
   in_step : IsInStep (g.R.Source.seen l.initial.reader).came (g.R.Source.seen l.reader).came l.lines.came;
@@ -16,4 +15,4 @@ invariant-lines g l = record {
 }
 
 abbrev pub decreases-lines : goal.decreases-lines
-decreases-lines g l = (max_input + 1 - l.lines.came) + length (waiting l.lines)
+decreases-lines g l = to_come l.lines

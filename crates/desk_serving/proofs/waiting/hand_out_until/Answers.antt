@@ -2,8 +2,8 @@ use Rattle.std.proofs.Common.{◌≡◌, ◌∙◌, List, ℕ, refl, subst}
 use Rattle.std.proofs.lemmas.Result.{err_from_is_err_and}
 use Rattle.desk_serving.specs.LanesView.{lanes_in, names_in}
 use Rattle.desk_serving.specs.Owed.{AreFirst, AreHanded}
-use Rattle.desk_serving.proofs.Owing.{first_after, handed_then, handed_first, handed_none}
-use Rattle.desk_serving.proofs.Outcomes.{out_broken, out_failed, out_refused, out_said}
+use Rattle.desk_serving.proofs.Owing.{first_after, handed_then, handed_none}
+use Rattle.desk_serving.proofs.Outcomes.{out_broken, out_failed, out_said}
 use Rattle.desk_serving.proofs.Saying.{tells_then, tells_none}
 use Rattle.desk_serving.proofs.waiting.hand_out_until.Goals as goal
 
@@ -14,36 +14,25 @@ loop-init g c =
 
 pub loop-preserved : goal.loop-preserved
 loop-preserved g c =
-    let names = names_in c.args.lanes.now in let old = lanes_in c.args.lanes.now in let mid = lanes_in c.loop.lanes in let new = lanes_in c.hand_out_round.new.lanes in
-    let told = c.in_ok-came.ensures.handed in
+    let names = names_in c.args.lanes.now in let old = lanes_in c.args.lanes.now in let mid = lanes_in c.loop.lanes in let new = lanes_in c.hand_out_or_rest.new.lanes in
+    let told = c.in_ok-hand_out_or_rest.ensures.handed in
     record {
-      same = c.in_ok-came.ensures.same ∙ c.loop.invariant.same;
-      names = c.in_ok-came.ensures.names ∙ c.loop.invariant.names;
+      same = c.in_ok-hand_out_or_rest.ensures.same ∙ c.loop.invariant.same;
+      names = c.in_ok-hand_out_or_rest.ensures.names ∙ c.loop.invariant.names;
       counts = told.counts (λ e. cc) ∙ c.loop.invariant.counts;
       tells = tells_then (AreHanded names old mid) (AreHanded (names_in c.loop.lanes) mid new) (AreHanded names old new) _ _ _ _ _ _
           (λ m k p q. handed_then names old mid new m k p (subst (λ (ns : List (List ℕ)). AreHanded ns mid new k) c.loop.invariant.names q)) c.loop.invariant.tells told.ok;
     }
 
-pub returns-in_err-came-clause-handed : goal.returns-in_err-came-clause-handed
-returns-in_err-came-clause-handed g c =
-    let names = names_in c.args.lanes.now in let old = lanes_in c.args.lanes.now in let mid = lanes_in c.loop.lanes in let new = lanes_in c.hand_out_round.new.lanes in
+pub returns-in_err-hand_out_or_rest-clause-handed : goal.returns-in_err-hand_out_or_rest-clause-handed
+returns-in_err-hand_out_or_rest-clause-handed g c =
+    let names = names_in c.args.lanes.now in let old = lanes_in c.args.lanes.now in let mid = lanes_in c.loop.lanes in let new = lanes_in c.hand_out_or_rest.new.lanes in
     let is = err_from_is_err_and c.from_residual.result c.from_residual.ensures.1 in
     rw (is.1, is.2)
     (out_broken (AreHanded names old mid) (AreHanded (names_in c.loop.lanes) mid new) (AreFirst (names_in c.loop.lanes) mid) _ (AreFirst names old)
-    (g.W.Sink.seen c.args.writer.now) (g.W.Sink.seen c.loop.writer) (g.W.Sink.seen c.hand_out_round.new.writer) _ _ _ c.in_err-came.field-0.0
+    (g.W.Sink.seen c.args.writer.now) (g.W.Sink.seen c.loop.writer) (g.W.Sink.seen c.hand_out_or_rest.new.writer) _ _ _ c.in_err-hand_out_or_rest.field-0.0
     (λ m k p q. first_after names old mid m k p (subst (λ (ns : List (List ℕ)). AreFirst ns mid k) c.loop.invariant.names q)) c.loop.invariant.tells c.loop.invariant.counts
-    (out_failed _ _ _ _ _ _ c.in_err-came.field-0.0 c.in_err-came.ensures.handed))
-
-pub returns-in_err-rest_fed-clause-handed : goal.returns-in_err-rest_fed-clause-handed
-returns-in_err-rest_fed-clause-handed g c =
-    let names = names_in c.args.lanes.now in let old = lanes_in c.args.lanes.now in let mid = lanes_in c.loop.lanes in let new = lanes_in c.hand_out_round.new.lanes in
-    let told = c.in_ok-came.ensures.handed in
-    let is = err_from_is_err_and c.from_residual-in_err-rest_fed.result c.from_residual-in_err-rest_fed.ensures.1 in
-    rw (is.1, is.2)
-    (out_refused _ (AreFirst names old) (g.W.Sink.seen c.args.writer.now) (g.W.Sink.seen c.hand_out_round.new.writer) _ _
-    (tells_then (AreHanded names old mid) (AreHanded (names_in c.loop.lanes) mid new) (AreFirst names old) _ _ _ _ _ _
-    (λ m k p q. handed_first names old new _ (handed_then names old mid new m k p (subst (λ (ns : List (List ℕ)). AreHanded ns mid new k) c.loop.invariant.names q))) c.loop.invariant.tells told.ok)
-    (told.counts (λ e. cc) ∙ c.loop.invariant.counts))
+    (out_failed _ _ _ _ _ _ c.in_err-hand_out_or_rest.field-0.0 c.in_err-hand_out_or_rest.ensures.handed))
 
 pub returns-clause-handed : goal.returns-clause-handed
 returns-clause-handed g c =

@@ -4,7 +4,7 @@ use Rattle.std.proofs.Math.Seq.{take-length}
 use Rattle.dmn_logic.specs.LogicView.{logic_view, members_view, entries_view}
 use Rattle.dmn_form.specs.Model.{list}
 use Rattle.dmn_ranges.specs.Boxes.{TellsBox, TellsEntries}
-use Rattle.dmn_ranges.specs.Ranges.{Scope}
+use Rattle.dmn_ranges.specs.Ranges.{Scope, plain}
 use Rattle.dmn_ranges.specs.Steps.{list_of}
 use Rattle.dmn_ranges.proofs.BoxForms.{expression_told, list_told, with_told}
 use Rattle.dmn_ranges.proofs.Naming.{kept_more}
@@ -45,11 +45,11 @@ bind_entries-loop-name-preserved t c =
     let before = c.loop-name.invariant in
     let old = c.loop-name.names in
     let next = c.bind.new.self in
-    let bound = c.in_ok-bind.ensures ∙ ap (λ (xs : Scope). xs ++ (c.as_str.result.now, c.in_ok-told.told.range) ∷ []) c.in_ok-told.ensures.names ∙ ap (λ n. old ++ (n, c.in_ok-told.told.range) ∷ []) c.as_str.ensures.value in
+    let bound = c.in_ok-bind.ensures ∙ ap (λ (xs : Scope). xs ++ (c.as_str.result.now, plain c.in_ok-told.told.range) ∷ []) c.in_ok-told.ensures.names ∙ ap (λ n. old ++ (n, plain c.in_ok-told.told.range) ∷ []) c.as_str.ensures.value in
     record {
       told = entries_turn c.args.names.now c.args.entries.now c.loop-name.name-index x c.loop-name.limit c.either-limit.result old next c.in_ok-told.told
           before.told c.loop-name-item.is c.loop-name-test.true c.in_ok-told.ensures.told bound c.either-limit.ensures;
-      names = kept_more c.args.names.now old next (arc_str_bytes x.0, c.in_ok-told.told.range) before.names bound;
+      names = kept_more c.args.names.now old next (arc_str_bytes x.0, plain c.in_ok-told.told.range) before.names bound;
     }
 
 pub bind_entries-returns : goal.bind_entries-returns

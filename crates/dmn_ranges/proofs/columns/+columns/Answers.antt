@@ -4,7 +4,7 @@ use Rattle.std.proofs.Math.Seq.{take-length}
 use Rattle.dmn_logic.specs.LogicView.{entries_view, logic_view}
 use Rattle.dmn_ranges.specs.Boxes.{TellsBox}
 use Rattle.dmn_ranges.specs.Columns.{AddsEntries, AddsTables}
-use Rattle.dmn_ranges.specs.Ranges.{Scope}
+use Rattle.dmn_ranges.specs.Ranges.{Scope, plain}
 use Rattle.dmn_ranges.specs.Tables.{column_outcomes}
 use Rattle.dmn_ranges.proofs.Naming.{kept_more}
 use Rattle.dmn_ranges.proofs.SoundColumns.{entries_begin, entries_done, entries_turn, members_begin, members_done, members_turn, of_context, of_result, of_table}
@@ -49,11 +49,11 @@ add_entries-loop-name-preserved t c =
     let next = c.bind.new.self in
     let o = c.in_ok-told.told in
     let told = subst (λ ys. TellsBox ys (logic_view x.1) o) c.in_ok-add_tables.ensures.names c.in_ok-told.ensures.told in
-    let bound = c.in_ok-bind.ensures ∙ ap (λ (xs : Scope). xs ++ (c.as_str.result.now, o.range) ∷ []) (c.in_ok-told.ensures.names ∙ c.in_ok-add_tables.ensures.names) ∙ ap (λ n. names ++ (n, o.range) ∷ []) c.as_str.ensures.value in
+    let bound = c.in_ok-bind.ensures ∙ ap (λ (xs : Scope). xs ++ (c.as_str.result.now, plain o.range) ∷ []) (c.in_ok-told.ensures.names ∙ c.in_ok-add_tables.ensures.names) ∙ ap (λ n. names ++ (n, plain o.range) ∷ []) c.as_str.ensures.value in
     record {
       tables = entries_turn c.args.names.now names c.args.entries.now c.loop-name.name-index x c.args.columns.now.items old c.add_tables.new.columns.items next o
           before.tables c.loop-name-item.is c.loop-name-test.true c.in_ok-add_tables.ensures.tables told bound;
-      names = kept_more c.args.names.now names next (arc_str_bytes x.0, o.range) before.names bound;
+      names = kept_more c.args.names.now names next (arc_str_bytes x.0, plain o.range) before.names bound;
     }
 
 pub add_entries-returns : goal.add_entries-returns

@@ -1,13 +1,14 @@
 use Rattle.std.proofs.Common.{◌∙◌, ap, sym, subst, get_or, drop, map, length, ◌<◌, List, refl, [], ◌++◌}
 use Rattle.std.specs.List.{All}
 use Rattle.dmn_service.specs.declared.plan.Item.{Item}
+use Rattle.dmn_ranges.specs.Services.{views}
 use Rattle.dmn_ranges.specs.declared.columns.ToldTables.{ToldTables}
 use Rattle.dmn_ranges.proofs.SoundColumns.{none_yet, one_more, place_more, places_done}
 use Rattle.dmn_ranges.proofs.columns.columns_along.Goals as goal
 
 pub loop-place-init : goal.loop-place-init
 loop-place-init c = record {
-  told = none_yet c.args.items.now c.args.told.now _ c.in_ok-columns.ensures.items;
+  told = none_yet c.args.items.now (c.args.told.now, views c.args.known.now) _ c.in_ok-columns.ensures.items;
   places = ap (λ (cs : List ToldTables). map (λ (d : ToldTables). d.place) cs ++ c.args.order.now) (sym c.in_ok-columns.ensures.items);
 }
 
@@ -17,7 +18,7 @@ loop-place-preserved c =
     let order = c.args.order.now in
     let i = c.loop-place.place-index in
     let one : ToldTables = record { place = get_or order i 0; tables = c.in_ok-tables.tables } in record {
-      told = one_more c.args.items.now c.args.told.now old c.push.new.self.items c.index-items-place.result one c.loop-place.invariant.told c.in_ok-push.ensures.items
+      told = one_more c.args.items.now (c.args.told.now, views c.args.known.now) old c.push.new.self.items c.index-items-place.result one c.loop-place.invariant.told c.in_ok-push.ensures.items
           (c.requires.order i 0 c.loop-place-test.true) c.index-items-place.is c.in_ok-tables.ensures;
       places = place_more order old c.push.new.self.items one i c.loop-place.invariant.places c.in_ok-push.ensures.items c.loop-place-test.true refl;
     }

@@ -16,18 +16,18 @@ pub returns-clause-decisions : goal.returns-clause-decisions
 returns-clause-decisions c =
     let items = c.args.items.now in
     let service = c.args.service.now in
-    λ m s values plan within. decisions_told c.in_ok-told.told.items m s items service values plan c.requires.places (sym (within_length c.args.domains.now values within) ∙ c.requires.domains) c.in_ok-told.ensures.count (c.in_ok-told.ensures.told values within)
+    λ m s values plan within. decisions_told c.in_ok-along.along.told.items m s items service values plan c.requires.places (sym (within_length c.args.domains.now values within) ∙ c.requires.domains) c.in_ok-along.ensures.count (c.in_ok-along.ensures.told values within).0
 
 pub returns-clause-result : goal.returns-clause-result
 returns-clause-result c =
     let items = c.args.items.now in
     let service = c.args.service.now in
     let outs = service.outputs.items in
-    let told = c.in_ok-told.told.items in
+    let told = c.in_ok-along.along.told.items in
     let same : c.outputs_outcomes-result.result ≡ outputs_outcomes told outs =
     c.outputs_outcomes-result.ensures ∙ ap (λ ts. outputs_outcomes ts c.deref.result.now) c.deref-2.ensures.value ∙ ap (outputs_outcomes told) c.deref.ensures.value in
     λ m s values plan within. (
     let found = filled_by items service.order.items (given_at service.parameters.items values nothing_found) in
     let P : Outcomes → Type 0 = λ o. covers o (service_result m s (zip (parameters_of s) values)) ≡ true in
     let Q : Outcome → Type 0 = λ p. covers (outputs_outcomes told outs) p ≡ true in
-    subst P (sym same) (subst Q (found_is_result m s items service values plan c.requires.places (sym (within_length c.args.domains.now values within) ∙ c.requires.domains)) (outputs_told (name_at items) told found outs (c.in_ok-told.ensures.told values within))))
+    subst P (sym same) (subst Q (found_is_result m s items service values plan c.requires.places (sym (within_length c.args.domains.now values within) ∙ c.requires.domains)) (outputs_told (name_at items) told found outs (c.in_ok-along.ensures.told values within).0)))

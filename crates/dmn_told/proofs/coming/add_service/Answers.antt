@@ -1,7 +1,7 @@
 use Rattle.std.proofs.Common.{◌∙◌, ap, sym, subst, length, map, ◌<◌, List}
 use Rattle.std.specs.List.{All}
 use Rattle.dmn_ranges.specs.Columns.{AreColumnsOf}
-use Rattle.dmn_ranges.specs.declared.range.Range.{Range}
+use Rattle.dmn_ranges.specs.declared.range.ParameterRange.{ParameterRange}
 use Rattle.dmn_told.proofs.Comings.{all_placed, of_service}
 use Rattle.dmn_told.proofs.coming.add_service.Goals as goal
 
@@ -16,7 +16,7 @@ returns-clause-comes c =
     let items = c.args.items.now in
     let plan = c.args.planned.now in
     let cs = c.in_ok-columns.columns.items in
-    let columns = subst (λ (rs : List Range). AreColumnsOf items plan rs cs) c.deref.ensures.value c.in_ok-columns.ensures.columns in
+    let columns = subst (λ (rs : List ParameterRange). AreColumnsOf items plan rs cs) c.deref.ensures.value c.in_ok-columns.ensures.columns in
     λ text n served named. of_service text n c.args.domains.now items plan (map (λ x. x.now) c.args.names.now) c.in_ok-ranges.ranges.items cs c.add_each.new.told.items served named c.in_ok-ranges.ensures.covered columns
     c.in_ok-columns.ensures.places c.in_ok-add_each.ensures.has
 

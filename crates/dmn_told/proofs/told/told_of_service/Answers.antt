@@ -3,7 +3,7 @@ use Rattle.dmn_plan.specs.ReadModel.{read_text}
 use Rattle.dmn_plan.specs.Served.{IsServicePlan}
 use Rattle.dmn_ranges.specs.Decisions.{AreRangesOf}
 use Rattle.dmn_ranges.specs.Ranges.{AreWithin}
-use Rattle.dmn_ranges.specs.declared.range.Range.{Range}
+use Rattle.dmn_ranges.specs.declared.range.ParameterRange.{ParameterRange}
 use Rattle.dmn_told.specs.Covered.{AreCovered}
 use Rattle.dmn_told.specs.declared.told.ServiceTold.{ServiceTold}
 use Rattle.dmn_told.proofs.Serving.{told_of}
@@ -23,5 +23,5 @@ returns-clause-told c =
     told_of text n ds told (map (λ (x : Bor (List ℕ)). x.now) c.in-Some.names.items) ranges served
     (sym (ap (option_map (λ (v : Vec (Bor (List ℕ)) Global). map (λ (x : Bor (List ℕ)). x.now) v.items)) c.in-Some.is) ∙ c.in_ok-names.ensures)
     (subst (λ (ns : List (Bor (List ℕ))). AreCovered ds (map (λ (x : Bor (List ℕ)). x.now) ns) ranges) c.deref.ensures.value c.in_ok-ranges.ensures.covered)
-    (subst (λ (rs : List Range). AreRangesOf items.now planned.now rs decisions.items) c.deref-2.ensures.value c.in_ok-told.ensures.decisions)
-    (λ m s values plan within. c.in_ok-told.ensures.result m s values plan (subst (λ (rs : List Range). AreWithin rs values) (sym c.deref-2.ensures.value) within))
+    (subst (λ (rs : List ParameterRange). AreRangesOf items.now planned.now rs decisions.items) c.deref-2.ensures.value c.in_ok-told.ensures.decisions)
+    (λ m s values plan within. c.in_ok-told.ensures.result m s values plan (subst (λ (rs : List ParameterRange). AreWithin rs values) (sym c.deref-2.ensures.value) within))
