@@ -98,24 +98,13 @@ func TestImportWritesComponents(t *testing.T) {
 	}
 }
 
-// TestCheckOfComponents gives an engine the domains of components if it takes such; of a file it says nothing otherwise.
+// TestCheckOfComponents gives an engine the domains of components.
 func TestCheckOfComponents(t *testing.T) {
 	path := file(t, parted)
-	for help, due := range map[string]string{"an input": `"domains":{"a":"not(null)"`, "an input or a path of an input": `"domains":{"a":"not(null)","a.Net_pay":"[0..9]"}`} {
-		_, input := engineThatKeeps(t)
-		engine := filepath.Join(filepath.Dir(input), "engine")
-		script, err := os.ReadFile(engine)
-		if err == nil {
-			err = os.WriteFile(engine, []byte(strings.Replace(string(script), "\n", "\n[ \"$1\" = help ] && echo '"+help+"' && exit\n", 1)), 0o700)
-		}
-		if err != nil {
-			t.Fatal(err)
-		}
-		status, out, errs := runs("", "check", "--gives", path)
-		came, err := os.ReadFile(input)
-		if status != 0 || err != nil || !strings.Contains(string(came), due) || strings.Contains(string(came), "a.Net_pay\":") != strings.Contains(due, "Net_pay") ||
-			strings.Contains(errs, "left out") {
-			t.Errorf("%s: %d %s%s: came %s, and %s is due", help, status, out, errs, came, due)
-		}
+	_, input := engineThatKeeps(t)
+	status, out, errs := runs("", "check", "--gives", path)
+	came, err := os.ReadFile(input)
+	if due := `"domains":{"a":"not(null)","a.Net_pay":"[0..9]"}`; status != 0 || err != nil || !strings.Contains(string(came), due) {
+		t.Errorf("%d %s%s: came %s, and %s is due", status, out, errs, came, due)
 	}
 }

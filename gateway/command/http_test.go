@@ -140,3 +140,52 @@ func TestPartsOfAFileOverHTTP(t *testing.T) {
 		})
 	}
 }
+
+// bounded is a file with allowed values that no JSON Schema of its types says, of inputs and of a component.
+const bounded = header + `<itemDefinition name="tAmount"><typeRef>number</typeRef><allowedValues><text>&gt;= 0.5</text></allowedValues></itemDefinition>` +
+	`<itemDefinition name="tSize"><typeRef>number</typeRef><allowedValues><text>[1..5], [10..20), null</text></allowedValues></itemDefinition>` +
+	`<itemDefinition name="tDay"><typeRef>date</typeRef><allowedValues><text>&gt;= date("2020-01-01"), null</text></allowedValues></itemDefinition>` +
+	`<itemDefinition name="tPerson"><itemComponent name="Net Pay"><typeRef>number</typeRef><allowedValues><text>&lt; 0, &gt; 9.25</text></allowedValues>` +
+	`</itemComponent></itemDefinition>` +
+	`<inputData id="a" name="Amount"><variable name="Amount" typeRef="tAmount"/></inputData>` +
+	`<inputData id="b" name="size"><variable name="size" typeRef="tSize"/></inputData>` +
+	`<inputData id="c" name="day"><variable name="day" typeRef="tDay"/></inputData>` +
+	`<inputData id="p" name="Person"><variable name="Person" typeRef="tPerson"/></inputData>` +
+	`<decision id="d" name="d"><informationRequirement><requiredInput href="#a"/></informationRequirement>` +
+	`<informationRequirement><requiredInput href="#b"/></informationRequirement><informationRequirement><requiredInput href="#c"/></informationRequirement>` +
+	`<informationRequirement><requiredInput href="#p"/></informationRequirement>` +
+	`<literalExpression><text>[Amount, size, if day = null then 0 else 1, Person.Net Pay]</text></literalExpression></decision></definitions>`
+
+// TestAllowedValuesOverHTTP refuses what the file doesn't allow, in the terms of the file.
+func TestAllowedValuesOverHTTP(t *testing.T) {
+	for _, options := range [][]string{nil, {"--lenient"}} {
+		s := serve(t, bounded, append([]string{"--decimals", "2"}, options...)...)
+		if s.names(t) == nil {
+			t.Fatal(s.messages)
+		}
+		for _, c := range []struct {
+			inputs string
+			status int
+			due    string
+		}{
+			{`{"Amount":0.5,"size":null,"day":"2020-01-01","Person":{"Net Pay":9.26}}`, 200, `{"result":[0.5,null,1,9.26]}`},
+			{`{"Amount":1e2,"size":19,"day":null,"Person":{"Net Pay":-1}}`, 200, `{"result":[100,19,0,-1]}`},
+			{`{"Amount":0.4,"Person":{"Net Pay":-1}}`, 422, `"detail":"0.4 is not allowed: it has to be at least 0.5"`},
+			{`{"Amount":0.4,"Person":{"Net Pay":-1}}`, 422, `"pointer":"/Amount"`},
+			{`{"Amount":7,"size":6,"Person":{"Net Pay":-1}}`, 422, `"detail":"6 is not allowed: it has to be from 1 to 5, at least 10 and less than 20 or null"`},
+			{`{"Amount":7,"size":20,"Person":{"Net Pay":-1}}`, 422, `"pointer":"/size"`},
+			{`{"Amount":7,"day":"2019-12-31","Person":{"Net Pay":-1}}`, 422, `"detail":"\"2019-12-31\" is not allowed: it has to be at least \"2020-01-01\" or null"`},
+			{`{"Amount":7,"Person":{"Net Pay":9.25}}`, 422, `"detail":"9.25 is not allowed: it has to be less than 0 or more than 9.25"`},
+			{`{"Amount":7,"Person":{"Net Pay":0}}`, 422, `"pointer":"/Person/Net Pay"`},
+		} {
+			if status, body := s.asked(t, "d", c.inputs); status != c.status || !strings.Contains(body, c.due) {
+				t.Errorf("%v %s: %d %s, and %s is due", options, c.inputs, status, body, c.due)
+			}
+		}
+		status, body := s.asked(t, "d", `{"Amount":7,"Person":{}}`)
+		if isRefused := strings.Contains(body, `\"Person.Net Pay\" is missing`); isRefused != (options == nil) || status == 200 == isRefused {
+			t.Errorf("%v: %d %s", options, status, body)
+		}
+		s.stop()
+	}
+}

@@ -87,11 +87,8 @@ const (
 	givesOption  = "--gives"
 )
 
-// pathsWords are in the help of a check that takes domains of components of inputs, as of applicant.age.
-const pathsWords = "or a path of an input"
-
-// A Known is what an engine's check knows: tablesOption, givesOption, and domains of components of inputs.
-type Known struct{ Tables, Gives, Paths bool }
+// A Known is what an engine's check knows: tablesOption and givesOption.
+type Known struct{ Tables, Gives bool }
 
 // Knows reports what the engine's check knows, by its help.
 func Knows(ctx context.Context, path string) (known Known) {
@@ -105,7 +102,7 @@ func Knows(ctx context.Context, path string) (known Known) {
 	for _, line := range lines {
 		help += strings.TrimSpace(string(line)) + " "
 	}
-	return Known{Tables: strings.Contains(help, tablesOption), Gives: strings.Contains(help, givesOption), Paths: strings.Contains(help, pathsWords)}
+	return Known{Tables: strings.Contains(help, tablesOption), Gives: strings.Contains(help, givesOption)}
 }
 
 // Gives asks what the services of a valid model and their decisions can give: a line for each. The text may have domains.

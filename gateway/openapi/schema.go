@@ -117,6 +117,9 @@ func partsOf(schema map[string]any) (parts []map[string]any) {
 
 // Example returns a value that a schema takes, as far as its main keywords say.
 func Example(schema map[string]any) any {
+	if value, is := schema["example"]; is {
+		return value
+	}
 	if values, is := schema["enum"].([]any); is && len(values) > 0 {
 		return values[0]
 	}

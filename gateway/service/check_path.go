@@ -210,7 +210,7 @@ func (s *Service) tables(ctx context.Context, model *served) (analysed, error) {
 	return analysed{Tables: it.found, Gives: it.gives}, err
 }
 
-// withDomains returns a model's text with the domains of its inputs and their components, if there are any, as far as the engine reads them.
+// withDomains returns a model's text with the domains of its inputs and their components, if there are any and the engine reads them.
 func (s *Service) withDomains(source *Source) ([]byte, error) {
 	if !s.knows.Gives || len(source.Domains) == 0 {
 		return source.Text, nil
@@ -218,9 +218,6 @@ func (s *Service) withDomains(source *Source) ([]byte, error) {
 	text, err := plainJSON(imported{Model: source.Text, Domains: source.Domains})
 	if err != nil {
 		return nil, fmt.Errorf("writing the domains: %w", err)
-	}
-	if !s.knows.Paths {
-		text, _ = engine.WithoutPaths(text)
 	}
 	return text, nil
 }

@@ -293,7 +293,7 @@ func (s *Service) openAPIPath(w http.ResponseWriter, r *http.Request) {
 			needs = model.needs
 		}
 		for _, word := range model.services[form.Name].inputs {
-			service.Inputs = append(service.Inputs, openapi.Input{Name: model.nameOf(word), Schema: model.schema(word),
+			service.Inputs = append(service.Inputs, openapi.Input{Name: model.nameOf(word), Schema: model.shownSchema(word),
 				Required: model.isStrict && isOneOf(word, known.required), NotNull: known.notNull[word], Needs: model.namedNeeds(needs[word])})
 		}
 		services = append(services, service)

@@ -13,8 +13,10 @@ import (
 const (
 	// handshakePatience is how long a connection may take to be established once it has begun.
 	handshakePatience = 250 * time.Millisecond
-	// acceptPatience is how long established connections may take to be accepted.
-	acceptPatience = 2 * time.Second
+	// acceptTurns is how many turns of acceptTurn established connections may take to be accepted. A process that has to
+	// wait for a processor accepts nothing meanwhile, and counts no turns either.
+	acceptTurns = 200
+	acceptTurn  = 10 * time.Millisecond
 )
 
 // shutOut stops new connections at a socket, and waits until those that have begun are accepted. The kernel resets
@@ -33,8 +35,8 @@ func shutOut(listener net.Listener) error {
 		return fmt.Errorf("letting no connection begin: %w", err)
 	}
 	time.Sleep(handshakePatience)
-	for until := time.Now().Add(acceptPatience); waiting(raw) > 0 && time.Now().Before(until); {
-		time.Sleep(10 * time.Millisecond)
+	for turn := 0; turn < acceptTurns && waiting(raw) > 0; turn++ {
+		time.Sleep(acceptTurn)
 	}
 	return nil
 }

@@ -53,8 +53,8 @@ var (
 	problemValue = &problemKind{"value", http.StatusUnprocessableEntity, "A value is not taken",
 		"pointer says which. A number is whole, written without a point and an exponent, from -9223372036854775807 to " +
 			"9223372036854775807; a value has at most 10,000 parts and is at most 100 deep. Where the model came from a " +
-			".dmn file, an input is of its type and among its allowed values; where its type has multipleOf it may have as many decimals, " +
-			"and is never rounded."}
+			".dmn file, an input is of its type; where its type has multipleOf it may have as many decimals, and is never rounded. Where the " +
+			"model declares domains, inputs and their components lie in them."}
 	problemLimit = &problemKind{"limit", http.StatusUnprocessableEntity, "A value breaks a limit on the way",
 		"The model's answer: some value on the way would be a number past 9223372036854775807, or have over 10,000 parts, " +
 			"or be over 100 deep."}

@@ -84,9 +84,11 @@ func (m *served) AppendAbout(to []byte) []byte {
 		Names    map[string]string          `json:"names,omitempty"`
 		Locals   map[string]string          `json:"locals,omitempty"`
 		Types    map[string]json.RawMessage `json:"types,omitempty"`
+		Domains  map[string]string          `json:"domains,omitempty"`
 		Required []string                   `json:"required,omitempty"`
 		Places   json.RawMessage            `json:"places,omitempty"`
-	}{m.release(), m.origin, m.by.program, m.by.engine, m.source.Names, m.source.Locals, m.source.Types, m.source.Required, m.source.Places}
+	}{m.release(), m.origin, m.by.program, m.by.engine, m.source.Names, m.source.Locals, m.source.Types, m.source.Domains, m.source.Required,
+		m.source.Places}
 	text, err := plainJSON(about)
 	if err != nil {
 		return append(to, `"release":null`...)

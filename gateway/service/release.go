@@ -19,12 +19,16 @@ type Release struct {
 }
 
 // Sum returns the SHA-256, in hexadecimal, of all that decides: of the model's compact text if there is nothing else,
-// or of the compact text of an object with model, names, locals, required and types.
+// or of the compact text of an object with domains, model, names, locals, required and types.
 func (s *Source) Sum() string {
-	if len(s.Names)+len(s.Locals)+len(s.Types) == 0 {
+	if len(s.Names)+len(s.Locals)+len(s.Types)+len(s.Domains) == 0 {
 		return sumOf(s.Text)
 	}
-	text := append([]byte(`{"locals":`), compactNames(s.Locals)...)
+	text := []byte(`{`)
+	if len(s.Domains) > 0 {
+		text = append(append(append(text, `"domains":`...), compactNames(s.Domains)...), ',')
+	}
+	text = append(append(text, `"locals":`...), compactNames(s.Locals)...)
 	text = append(append(text, `,"model":`...), s.Text...)
 	text = append(append(text, `,"names":`...), compactNames(s.Names)...)
 	if len(s.Required) > 0 {

@@ -133,16 +133,16 @@ func syntaxProblem(fault *lines.SyntaxFault) *problem {
 	return p
 }
 
-// values checks the values of a service's parameters against the engine's limits and the file's types.
+// values checks the values of a service's parameters against the engine's limits, the file's types and the domains.
 func (m *served) values(service *decisionService, text []byte, members []lines.Member) *problem {
 	last := lastMembers(members)
 	for at, member := range members {
 		if !service.parameters[member.Key] || comesAgain(members, last, at) {
 			continue
 		}
-		fault := lines.Value(text, member.Value)
-		if of := m.types[member.Key]; of != nil && fault == nil && !of.HoldsPlain(text[member.Value.Start:member.Value.End]) {
-			value, err := lines.Tree(text[member.Value.Start:member.Value.End])
+		fault, written := lines.Value(text, member.Value), text[member.Value.Start:member.Value.End]
+		if of := m.types[member.Key]; of != nil && fault == nil && !of.HoldsPlain(written) {
+			value, err := lines.Tree(written)
 			if err != nil {
 				return problemInside.with(err.Error())
 			}
@@ -150,6 +150,9 @@ func (m *served) values(service *decisionService, text []byte, members []lines.M
 		}
 		if fault != nil {
 			return problemValue.at(m.pointer("/"+lines.Token(member.Key)+fault.Pointer), fault.Reason)
+		}
+		if p := m.outside(member.Key, written); p != nil {
+			return p
 		}
 	}
 	return nil

@@ -7,6 +7,7 @@ import (
 	"fmt"
 	"time"
 
+	"gateway/domain"
 	"gateway/engine"
 	"gateway/lines"
 	"gateway/tell"
@@ -45,6 +46,8 @@ type served struct {
 	// required has the inputs that callers have to give by what the file says, needs the components of inputs.
 	required []string
 	needs    map[string]*types.Needs
+	// domains has the values that inputs and their components may have, by the words of the inputs.
+	domains map[string]*domain.Place
 	// origin says where the model came from, and since when it is in force.
 	origin string
 	since  time.Time
@@ -165,6 +168,9 @@ func (m *served) index() (err error) {
 	}
 	m.counts = m.isCounted()
 	m.require()
+	if err := m.declare(); err != nil {
+		return err
+	}
 	if err := m.countParts(); err != nil {
 		return err
 	}

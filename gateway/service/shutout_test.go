@@ -210,3 +210,48 @@ func TestUnixSocket(t *testing.T) {
 		}
 	}
 }
+
+// Connections that were established before a socket is shut out are waited for until they are accepted, and no other is
+// established after.
+func TestShutOut(t *testing.T) {
+	listener, err := net.Listen("tcp", "127.0.0.1:0")
+	if err != nil {
+		t.Fatal(err)
+	}
+	defer listener.Close()
+	const count = 3
+	for n := 0; n < count; n++ {
+		connection, err := net.Dial("tcp", listener.Addr().String())
+		if err != nil {
+			t.Fatal(err)
+		}
+		defer connection.Close()
+		fmt.Fprint(connection, n)
+	}
+	ended := make(chan error)
+	go func() { ended <- shutOut(listener) }()
+	time.Sleep(2 * handshakePatience)
+	for n := 0; n < count; n++ {
+		select {
+		case err := <-ended:
+			t.Fatalf("%d connections were accepted before it ended: %v", n, err)
+		default:
+		}
+		connection, err := listener.Accept()
+		if err != nil {
+			t.Fatal(err)
+		}
+		defer connection.Close()
+		text := make([]byte, 1)
+		if _, err := io.ReadFull(connection, text); err != nil || text[0] != byte('0'+n) {
+			t.Errorf("connection %d says %q: %v", n, text, err)
+		}
+	}
+	if err := <-ended; err != nil {
+		t.Error(err)
+	}
+	if connection, err := net.DialTimeout("tcp", listener.Addr().String(), handshakePatience); err == nil {
+		connection.Close()
+		t.Error("a connection is established after")
+	}
+}

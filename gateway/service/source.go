@@ -20,7 +20,7 @@ type Source struct {
 	Locals map[string]string
 	// Types has a JSON Schema for each input whose type the file gives.
 	Types map[string]json.RawMessage
-	// Domains has unary tests for inputs, by their words: the values that each may have.
+	// Domains has unary tests for inputs, by their words, and for their components, by their paths: the values that each may have.
 	Domains map[string]string
 	// Required has the words of the inputs that a caller over HTTP has to give, and not as null.
 	Required []string

@@ -30,6 +30,9 @@ func (m *served) countedInputs(service *decisionService, whole []byte, members [
 			if fault != nil {
 				return nil, problemValue.at(m.pointer("/"+lines.Token(member.Key)+fault.Pointer), fault.Reason)
 			}
+			if p := m.outside(member.Key, units); p != nil {
+				return nil, p
+			}
 			value = units
 		}
 		if len(made) > 1 {

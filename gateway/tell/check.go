@@ -8,8 +8,6 @@ import (
 	"io"
 	"os/exec"
 	"runtime/debug"
-
-	"gateway/engine"
 )
 
 // Exit statuses of `desk check` and `desk explain`.
@@ -70,7 +68,6 @@ func Check(ctx context.Context, path string, options CheckOptions, in io.Reader,
 	}
 	input := text.Bytes()
 	defer collectLess(len(input))()
-	input = withoutPaths(ctx, path, options, input, errOut)
 	output, status, err := run(ctx, path, input, errOut, options.words()...)
 	if err != nil {
 		return 0, err
@@ -93,28 +90,6 @@ func Check(ctx context.Context, path string, options CheckOptions, in io.Reader,
 		return StatusFault, nil
 	}
 	return status, nil
-}
-
-// withoutPaths returns the input without the domains of components, if there are any and the engine doesn't take such. It says so, unless
-// an import wrote them.
-func withoutPaths(ctx context.Context, path string, options CheckOptions, input []byte, errOut io.Writer) []byte {
-	if !engine.HasDomains(input) || engine.Knows(ctx, path).Paths {
-		return input
-	}
-	model, requests := input, []byte(nil)
-	if options.Requests {
-		if end := bytes.IndexByte(input, '\n'); end >= 0 {
-			model, requests = input[:end], input[end:]
-		}
-	}
-	without, left := engine.WithoutPaths(model)
-	if left == 0 {
-		return input
-	}
-	if options.Origins == nil {
-		fmt.Fprintf(errOut, "desk check: domains of components are left out (%d): this engine takes those of whole inputs\n", left)
-	}
-	return append(without, requests...)
 }
 
 const (

@@ -109,37 +109,3 @@ func TestExplainWords(t *testing.T) {
 		t.Errorf("%d, %v: %q, %q; and %q is due", status, err, out.String(), errOut.String(), due)
 	}
 }
-
-// TestOlderEngine gives an engine that takes domains of whole inputs no others, and says so where somebody wrote them.
-func TestOlderEngine(t *testing.T) {
-	const (
-		model = `{"model":{"inputs":["a"],"decisions":[],"services":[]},"domains":`
-		valid = `{"lawful":true,"inputs":["a"],"decisions":[],"services":[]}`
-		note  = "desk check: domains of components are left out (1): this engine takes those of whole inputs\n"
-	)
-	for _, it := range []struct {
-		help, text, due, note string
-		options               CheckOptions
-	}{
-		{"an input", model + `{"a":"not(null)","a.b":"1"}}`, model + `{"a":"not(null)"          }}`, note, CheckOptions{}},
-		{"an input", model + `{"a":"not(null)","a.b":"1"}}`, model + `{"a":"not(null)"          }}`, "", CheckOptions{Origins: map[string]Spot{}}},
-		{"an input", model + `{"a":"not(null)"}}`, model + `{"a":"not(null)"}}`, "", CheckOptions{}},
-		{"an input or a path of an input", model + `{"a":"not(null)","a.b":"1"}}`, model + `{"a":"not(null)","a.b":"1"}}`, "", CheckOptions{}},
-		{"an input", model + `{"a.b":"1"}}` + "\n{\"domains\":{\"a.b\":1}}\n", model + "{         }}\n{\"domains\":{\"a.b\":1}}\n", note, CheckOptions{Requests: true}},
-	} {
-		folder := t.TempDir()
-		script := fmt.Sprintf("#!/bin/sh\n[ \"$1\" = help ] && echo '%s' && exit\ncat > %s/came\necho '%s'\n", it.help, folder, valid)
-		path := filepath.Join(folder, "engine")
-		if err := os.WriteFile(path, []byte(script), 0o700); err != nil {
-			t.Fatal(err)
-		}
-		var out, errOut bytes.Buffer
-		if status, err := Check(context.Background(), path, it.options, strings.NewReader(it.text), &out, &errOut); err != nil || status != 0 {
-			t.Errorf("%s: %d %v", it.text, status, err)
-		}
-		came, err := os.ReadFile(filepath.Join(folder, "came"))
-		if err != nil || string(came) != it.due || errOut.String() != it.note {
-			t.Errorf("%s: came %s and %q, and %s and %q are due", it.text, came, errOut.String(), it.due, it.note)
-		}
-	}
-}

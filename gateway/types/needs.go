@@ -4,6 +4,8 @@ import (
 	"math/bits"
 	"sort"
 	"strings"
+
+	"gateway/lines"
 )
 
 // Needs are the members that an object has to have, and not as null; and those that an object which one of them is has to have in turn.
@@ -47,36 +49,33 @@ func NeedsOf(paths []string) *Needs {
 // AreMet reports whether a value visibly has all that is needed, without reading its text into a tree. If not, Lacking decides. The text
 // is valid JSON without blanks around it.
 func (n *Needs) AreMet(text []byte) bool {
-	r := reader{text: text}
-	return n.areMet(&r) && r.at == len(text)
+	r := lines.PlainOf(text)
+	return n.areMet(&r) && r.IsAtEnd()
 }
 
 // areMet reads a value. Each member of a repeated key has to have what is needed.
-func (n *Needs) areMet(r *reader) bool {
-	switch r.peek() {
+func (n *Needs) areMet(r *lines.Plain) bool {
+	switch r.Peek() {
 	case '{':
 		seen := newPlaces(n.count())
-		return r.parts('}', func() bool { return n.isMember(r, seen) }) && seen.count() == n.count()
+		return r.Parts('}', func() bool { return n.isMember(r, seen) }) && seen.count() == n.count()
 	case '[':
-		return n == nil && r.parts(']', func() bool { return n.areMet(r) })
+		return n == nil && r.Parts(']', func() bool { return n.areMet(r) })
 	}
-	return len(r.scalar()) > 0 && n == nil
+	return len(r.Scalar()) > 0 && n == nil
 }
 
-func (n *Needs) isMember(r *reader, seen places) bool {
-	key := r.scalar()
-	if len(key) < 2 {
+func (n *Needs) isMember(r *lines.Plain, seen places) bool {
+	key, isSeen := r.Key()
+	if !isSeen {
 		return false
 	}
-	r.blanks()
-	r.at++
-	r.blanks()
-	it, isNeeded := n.member(key[1 : len(key)-1])
+	it, isNeeded := n.member(key)
 	if !isNeeded {
 		return (*Needs)(nil).areMet(r)
 	}
 	seen.add(it.at)
-	return r.peek() != 'n' && it.within.areMet(r)
+	return r.Peek() != 'n' && it.within.areMet(r)
 }
 
 func (n *Needs) member(key []byte) (it need, is bool) {

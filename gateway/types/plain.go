@@ -10,8 +10,8 @@ import (
 // HoldsPlain reports whether a value visibly has this type, without reading its text into a tree. If not, Check decides. The
 // text is valid JSON without blanks around it.
 func (t *Type) HoldsPlain(text []byte) bool {
-	r := reader{text: text}
-	return t.holds(&r) && r.at == len(text)
+	r := lines.PlainOf(text)
+	return t.holds(&r) && r.IsAtEnd()
 }
 
 // Any is the type of untyped values.
@@ -26,14 +26,14 @@ func (t *Type) or() *Type {
 }
 
 // holds reads a value, and reports whether it visibly has this type.
-func (t *Type) holds(r *reader) bool {
-	switch r.peek() {
+func (t *Type) holds(r *lines.Plain) bool {
+	switch r.Peek() {
 	case '{':
-		return t.takes("object") && len(t.enum) == 0 && r.parts('}', func() bool { return t.holdsMember(r) })
+		return t.takes("object") && len(t.enum) == 0 && r.Parts('}', func() bool { return t.holdsMember(r) })
 	case '[':
-		return t.takes("array") && len(t.enum) == 0 && r.parts(']', func() bool { return t.items.or().holds(r) })
+		return t.takes("array") && len(t.enum) == 0 && r.Parts(']', func() bool { return t.items.or().holds(r) })
 	}
-	text := r.scalar()
+	text := r.Scalar()
 	if len(text) == 0 || !t.isListedText(text) {
 		return false
 	}
@@ -49,15 +49,9 @@ func (t *Type) holds(r *reader) bool {
 }
 
 // holdsMember reads an object's member. Each member of a repeated key must have the type.
-func (t *Type) holdsMember(r *reader) bool {
-	key := r.scalar()
-	if len(key) < 2 {
-		return false
-	}
-	r.blanks()
-	r.at++
-	r.blanks()
-	return t.properties[string(key[1:len(key)-1])].or().holds(r)
+func (t *Type) holdsMember(r *lines.Plain) bool {
+	key, isSeen := r.Key()
+	return isSeen && t.properties[string(key)].or().holds(r)
 }
 
 func (t *Type) takes(kind string) bool {
@@ -154,66 +148,4 @@ func (t *Type) bounds(number int64) bool {
 		}
 	}
 	return true
-}
-
-// A reader reads a valid JSON text.
-type reader struct {
-	text []byte
-	at   int
-}
-
-func (r *reader) peek() byte {
-	if r.at < len(r.text) {
-		return r.text[r.at]
-	}
-	return 0
-}
-
-func (r *reader) blanks() {
-	for c := r.peek(); c == ' ' || c == '\n' || c == '\t' || c == '\r'; c = r.peek() {
-		r.at++
-	}
-}
-
-// parts reads the parts of a list or object, each with part, which reports whether to continue.
-func (r *reader) parts(end byte, part func() bool) bool {
-	r.at++
-	r.blanks()
-	if r.peek() == end {
-		r.at++
-		return true
-	}
-	for part() {
-		r.blanks()
-		c := r.peek()
-		r.at++
-		if c != ',' {
-			return c == end
-		}
-		r.blanks()
-	}
-	return false
-}
-
-// scalar reads a string, a number, true, false or null, and returns it as written; nothing if it has an escape.
-func (r *reader) scalar() []byte {
-	start := r.at
-	if r.peek() == '"' {
-		for at := start + 1; at < len(r.text) && r.text[at] != '\\'; at++ {
-			if r.text[at] == '"' {
-				r.at = at + 1
-				return r.text[start:r.at]
-			}
-		}
-		return nil
-	}
-	for isOfWord(r.peek()) {
-		r.at++
-	}
-	return r.text[start:r.at]
-}
-
-// isOfWord reports whether a byte may be in a number, true, false or null.
-func isOfWord(c byte) bool {
-	return c >= '0' && c <= '9' || c|0x20 >= 'a' && c|0x20 <= 'z' || c == '-' || c == '+' || c == '.'
 }

@@ -68,16 +68,16 @@ class Units:
 
     @contextlib.contextmanager
     def load(self, threads: int = 8) -> Iterator[dict[str, int]]:
-        """Calls while the body runs; then how many came to what."""
+        """Calls while the body runs, from each thread one before; then how many came to what."""
         came: dict[str, int] = {}
         with tempfile.TemporaryDirectory() as room:
-            end = Path(room) / "end"
             words = ["nsenter", "-t", str(self.machine.leader), "-n", "--", sys.executable, str(HERE / "machine_load.py")]
-            caller = subprocess.Popen([*words, str(threads), str(end)], stdout=subprocess.PIPE, text=True)
+            caller = subprocess.Popen([*words, str(threads), room], stdout=subprocess.PIPE, text=True)
             try:
+                wait((Path(room) / "begun").exists, "each thread of the load had an answer")
                 yield came
             finally:
-                end.touch()
+                (Path(room) / "end").touch()
                 came.update(json.loads(caller.communicate(timeout=PATIENCE * 2)[0]))
 
 
@@ -86,28 +86,31 @@ def only_prices(came: dict[str, int]) -> list[str]:
     return [] if list(came) == ['200 {"result":950}'] else [f"the calls came to {came}"]
 
 
+def connected(units: Units) -> socket.socket:
+    """A connection to the socket of the units."""
+    link = socket.socket(socket.AF_UNIX)
+    link.settimeout(PATIENCE)
+    link.connect(str(units.machine.path("/run/colkuzai.sock")))
+    return link
+
+
+def read(link: socket.socket, count: int) -> bytes:
+    """So many bytes of a connection, or more, or all up to its end."""
+    said = b""
+    while len(said) < count and (more := link.recv(4096)):
+        said += more
+    return said
+
+
 def the_socket(units: Units) -> list[str]:
     """A process for each connection, of the user colkuzai."""
     units.systemctl("start", "colkuzai.socket")
     wrong = []
-
-    def connected() -> socket.socket:
-        link = socket.socket(socket.AF_UNIX)
-        link.settimeout(PATIENCE)
-        link.connect(str(units.machine.path("/run/colkuzai.sock")))
-        return link
-
-    with connected() as one, connected() as two:
+    with connected(units) as one, connected(units) as two:
         for link in (one, two):
             link.sendall(LINES)
         for link in (one, two):
-            said = b""
-            while len(said) < len(DUE):
-                more = link.recv(4096)
-                if not more:
-                    break
-                said += more
-            if said != DUE:
+            if (said := read(link, len(DUE))) != DUE:
                 wrong.append(f"the answers are {said!r}")
         services = units.systemctl("list-units", "--plain", "--no-legend", "colkuzai@*").splitlines()
         if len(services) != 2:
@@ -151,8 +154,9 @@ def http(units: Units) -> list[str]:
     units.systemctl("start", "colkuzai-http.socket")
     missing = units.machine.run("systemctl", "start", "colkuzai-http.service").returncode
     wrong = [] if missing else ["it starts without a model"]
-    if "/etc/colkuzai/model.json: no such file" not in units.journal("colkuzai-http.service"):
-        wrong.append("its journal does not say that the model is missing")
+    # What a process says is in the journal a little later.
+    wait(lambda: "/etc/colkuzai/model.json: no such file" in units.journal("colkuzai-http.service"),
+         "its journal says that the model is missing")
     units.must("cp", f"{DOCUMENTS}/examples/parcel.json", "/etc/colkuzai/model.json")
     units.systemctl("reset-failed", "colkuzai-http.service")
     units.systemctl("restart", "colkuzai-http.socket")
@@ -160,12 +164,18 @@ def http(units: Units) -> list[str]:
     if first != '200 {"result":950}':
         wrong.append(f"the price is {first}")
     journals = units.machine.path("/var/lib/colkuzai/journal")
-    before = {it.name for it in journals.glob("*.jsonl")}
-    if not any('"service":"shipping"' in it.read_text() for it in journals.glob("*.jsonl")):
+    before = set(journals.glob("*.jsonl"))
+    if not any('"service":"shipping"' in it.read_text() for it in before):
         wrong.append("no journal has the request")
     units.systemctl("reload", "colkuzai-http.service")
-    units.price()
-    wait(lambda: {it.name for it in journals.glob("*.jsonl")} - before, "a new journal file after reload")
+
+    def begun_anew() -> bool:
+        """Whether a request is in a new journal file: the first ones may be answered before the service has the signal."""
+        if (price := units.price()) != '200 {"result":950}':
+            raise AssertionError(f"after reload the price is {price}")
+        return any('"service":"shipping"' in it.read_text() for it in set(journals.glob("*.jsonl")) - before)
+
+    wait(begun_anew, "a new journal file after reload")
     dearer = json.dumps(PARCEL).replace('"500"', '"600"').replace("500 +", "600 +")
     put = units.curl("/v1/model", "-X", "PUT", "-d", dearer)
     if not put.startswith("200") or units.price() != '200 {"result":1050}':
@@ -231,24 +241,20 @@ def verified(units: Units) -> list[str]:
 
 def upgraded(units: Units) -> list[str]:
     """Another version is installed while calls come and a connection is open."""
-    link = socket.socket(socket.AF_UNIX)
-    link.settimeout(PATIENCE)
-    link.connect(str(units.machine.path("/run/colkuzai.sock")))
-    link.sendall(LINES)
-    said = b""
-    while len(said) < len(DUE):
-        said += link.recv(4096)
-    before = units.main_process("colkuzai-http.service")
-    with units.load() as came:
-        units.must("apt-get", "install", "-y", "/packages/upgrade.deb")
-    wrong = only_prices(came)
-    print(f"an upgrade under load: {came}")
-    if units.main_process("colkuzai-http.service") == before:
-        wrong.append("the service runs the old program")
-    link.sendall(json.dumps(REQUEST).encode() + b"\n")
-    if b'"ticket":1' not in (last := link.recv(4096)):
-        wrong.append(f"the open connection answers {last!r}")
-    link.close()
+    with connected(units) as link:
+        link.sendall(LINES)
+        said = read(link, len(DUE))
+        before = units.main_process("colkuzai-http.service")
+        with units.load() as came:
+            units.must("apt-get", "install", "-y", "/packages/upgrade.deb")
+        wrong = only_prices(came)
+        print(f"an upgrade under load: {came}")
+        if said != DUE:
+            wrong.append(f"before it the open connection answers {said!r}")
+        if units.main_process("colkuzai-http.service") == before:
+            wrong.append("the service runs the old program")
+        if b'"ticket":1' not in (last := asked_again(link)):
+            wrong.append(f"the open connection answers {last!r}")
     return wrong
 
 

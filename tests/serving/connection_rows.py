@@ -178,12 +178,17 @@ def quiet_connections(programs: list[str], folder: Path) -> None:
 
 def slow_callers(programs: list[str], folder: Path) -> None:
     """Six callers of one request that is too long hold no engine that others need, whether it is always the same or not."""
+    plain = Service(programs, folder, slow(4000, 10), "--processes", 2)
+    # Where the machine does other work, small requests and slow ones take longer alike; the small ones are to stay far within it.
+    deadline = max(0.5, 10 * answers_in_time(plain, 20)[-1])
+    assert plain.end() == 0
     for same in (True, False):
         # Callers are told apart by their tokens.
         tokens = {name: hashlib.sha256(name.encode()).hexdigest() for name in ("slow", "small")}
         (folder / "tokens").write_text("".join(f"{name} call {value}\n" for name, value in tokens.items()))
-        # Some five seconds a request on a quiet machine, ten times the deadline.
-        service = Service(programs, folder, slow(4000, 10), "--processes", 2, "--deadline", "500ms", "--tokens", folder / "tokens")
+        # Some five seconds a request on a quiet machine, ten times the deadline, which is half a second there.
+        service = Service(programs, folder, slow(4000, 10), "--processes", 2, "--deadline", f"{1000 * deadline:.0f}ms",
+                          "--tokens", folder / "tokens")
         over, kinds = threading.Event(), set()
 
         def call(number: int) -> None:

@@ -11,6 +11,9 @@ from collections.abc import Callable
 from serving.models import Json
 from serving.service import PATIENCE, Service, ask
 
+# How many seconds the service waits for the header of a new connection, and, once it ends, for another request of a kept one.
+HEADER, KEPT = 5.0, 2.0
+
 
 class Load:
     """Callers that ask one request after another, each on a connection of its own, or with fresh on one for each request,
@@ -21,7 +24,7 @@ class Load:
         self.service, self.added, self.body, self.fresh = service, added, body, fresh
         self.over = threading.Event()
         self.lock = threading.Lock()
-        self.answered, self.refused = 0, 0
+        self.answered, self.refused, self.late = 0, 0, 0
         self.complaints: list[str] = []
         self.threads = [threading.Thread(target=self.call, args=(n,)) for n in range(callers)]
         for thread in self.threads:
@@ -30,21 +33,37 @@ class Load:
     def call(self, number: int) -> None:
         client = f"c{number}" if number % 2 == 0 else ""
         on = self.service.connection()
-        last = 0
+        last, heard = 0, 0.0
         for n in range(1_000_000):
             if self.over.is_set():
                 return
             if self.fresh:
                 on.close()
-            least = self.added()
+            least, is_new = self.added(), on.sock is None
+            silent_since = time.monotonic() if is_new else heard
             try:
                 status, answer = ask(on, self.body(n), client)
             except ConnectionRefusedError:
                 return
             except (OSError, http.client.HTTPException) as fault:
-                self.complain(f"caller {number}, request {n}: {fault!r}")
-                return
+                silent = time.monotonic() - silent_since
+                if not self.may_call_again(fault, silent, HEADER if is_new else KEPT):
+                    self.complain(f"caller {number}, request {n}: {fault!r}, silent for {silent:.3f} s at most")
+                    return
+                on.close()
+                continue
+            heard = time.monotonic()
             last = self.judge(number, n, status, answer, max(least, last))
+
+    def may_call_again(self, fault: Exception, silent: float, patience: float) -> bool:
+        """Whether the service closed a connection that was silent for too long, as one is whose caller has to wait for a processor.
+        It read nothing of the request then: header and body are written apart, and a body can't be written only where the
+        connection was closed before its header came."""
+        if not isinstance(fault, BrokenPipeError) or silent < patience:
+            return False
+        with self.lock:
+            self.late += 1
+        return True
 
     def judge(self, number: int, n: int, status: int, answer: object, least: int) -> int:
         """Counts an answer, and gives the number that its model adds."""
@@ -77,6 +96,8 @@ class Load:
         for thread in self.threads:
             thread.join(120)
         assert not any(thread.is_alive() for thread in self.threads), "a caller has no answer"
+        if self.late:
+            print(f"{self.late} connections were closed before their callers came to write", flush=True)
         assert not self.complaints, self.complaints[:5]
 
 

@@ -1,6 +1,7 @@
 pub mod Beside
 pub mod Constants
 pub mod DomainLines
+pub mod EmptyParts
 pub mod FirstFaults
 pub mod Judging
 pub mod Lawful

@@ -1,6 +1,6 @@
 -- The domains that stand beside a model: unary tests of constants, each under the name of an input, or under a path into one.
 use Rattle.std.specs.Prelude.{◌≡◌, ◌<◌, ◌&&◌, ℕ, List, [], ◌∷◌, ◌++◌, length, map, Bool, true, false, Option, None, Some, is_some, nat_eq, codes, string_bytes, if◌then◌else◌}
-use Rattle.std.specs.List.{before_first, list_all}
+use Rattle.std.specs.List.{before_first, list_all, list_any}
 use Rattle.serde_json.specs.Data.{Data, object, Members, no_members, member}
 use Rattle.serde_json.specs.Find.{as_str, get}
 use Rattle.serde_json.specs.Read.{read}
@@ -8,10 +8,12 @@ use Rattle.feel_value.specs.Found.{◌>>=◌}
 use Rattle.feel_text.specs.Expr.{Expr, Exprs, none, more, Null, Boolean, Number, Text, Name as Named, Group, Members as Listed, Call, Modulo, Not, Negate, Path, Binary, Between, If}
 use Rattle.feel_text.specs.Readings.{tests_of}
 use Rattle.feel_text.specs.Tests.{Test, Compares, Interval, Equals, Tests, Any, OneOf, NoneOf}
+use Rattle.dmn_analysis.specs.Kinds.{is_empty}
 use Rattle.dmn_check.specs.Pointer.{escaped}
 use Rattle.dmn_form.specs.Draft.{Draft, draft_of}
 use Rattle.dmn_form.specs.Model.{Name}
 use Rattle.dmn_names.specs.Places.{input_place}
+use Rattle.dmn_told.specs.Parts.{parts}
 use Rattle.dmn_told.specs.declared.domains.Domain.{Domain}
 use Rattle.desk_checking.specs.FirstFault.{subject}
 use Rattle.desk_checking.specs.declared.findings.CheckFault.{CheckFault}
@@ -81,9 +83,13 @@ declared_as n d = as_str d >>= λ s. constant_tests s >>= λ t. Some (n, t)
 abbrev pub first_name : Name → Name
 first_name n = before_first (λ c. nat_eq c 46) n
 
+-- a part of a path is empty
+abbrev pub has_empty_part : Name → Bool
+has_empty_part n = list_any is_empty (parts n)
+
 -- what is declared of an input, or of a member of one
 abbrev pub declared_of : Draft → Name → Data → Option Declared
-declared_of m n d = if is_some (input_place m (first_name n)) then declared_as n d else None
+declared_of m n d = if has_empty_part n then None else (if is_some (input_place m (first_name n)) then declared_as n d else None)
 
 abbrev pub with_domain : Option Declared → List Declared → List Declared
 with_domain None ds = ds

@@ -1,9 +1,9 @@
 //! What is declared beside a model: the domains of its inputs.
-ghost use Rattle.std.specs.Prelude.{◌≡◌, ◌++◌, [], ◌∷◌, None, Some, IfOk, OnOk, map, option_map};
+ghost use Rattle.std.specs.Prelude.{◌≡◌, ◌&&◌, ◌++◌, [], ◌∷◌, None, Some, IfOk, OnOk, map, nat_eq, option_map};
 ghost use Rattle.serde_json.specs.View.{members_view, view};
 ghost use Rattle.dmn_form.specs.ModelView.{model_view};
 ghost use Rattle.dmn_names.specs.PlacedModel.{placed_model};
-ghost use Rattle.desk_checking.specs.Domains.{constant_tests as constant_tests_of, declared_as, declared_of, domain_view, domains_among, first_name as first_name_of, refused_among, with_domain, with_refused};
+ghost use Rattle.desk_checking.specs.Domains.{constant_tests as constant_tests_of, declared_as, declared_of, domain_view, domains_among, first_name as first_name_of, has_empty_part as has_empty_part_of, refused_among, with_domain, with_refused};
 ghost use Rattle.desk_checking.specs.DomainsView.{IsBeside, domain_views, name_views};
 
 use crate::constant::have_constants;
@@ -63,7 +63,29 @@ fn first_name(path: &str) -> &str
     parts.0
 }
 
-/// What is declared under a name or a path, if it begins with the name of an input.
+/// Whether a byte ends a part of a path that is empty so far.
+fn ends_empty(byte: u8, is_empty: bool) -> bool
+    ensures { result ≡ nat_eq byte 46 && is_empty }
+{
+    byte == b'.' && is_empty
+}
+
+/// Whether a part of a path is empty.
+fn has_empty_part(path: &str) -> bool
+    ensures { result ≡ has_empty_part_of path.now }
+{
+    let bytes = path.as_bytes();
+    let mut is_empty = true;
+    for byte in bytes {
+        if ends_empty(*byte, is_empty) {
+            return true;
+        }
+        is_empty = *byte == b'.';
+    }
+    is_empty
+}
+
+/// What is declared under a name or a path, if it begins with the name of an input and no part of it is empty.
 fn domain_of(
     alloc: Global,
     places: &Places,
@@ -72,6 +94,9 @@ fn domain_of(
 ) -> Result<Option<Domain>, AllocError>
     ensures { IfOk result (λ domain. option_map domain_view domain ≡ declared_of (placed_model places.now) name.now (view json.now)) }
 {
+    if has_empty_part(name) {
+        return Ok(None);
+    }
     let first = first_name(name);
     if places.input(first).is_none() {
         return Ok(None);

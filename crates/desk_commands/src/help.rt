@@ -74,7 +74,8 @@ pub const SERVE: &str = r#"Each line is one JSON object:
 
 A client's answers come in the order of its lines, and are written while the program waits for input.
 A slow request keeps one worker. It delays other clients if all workers are kept, or if a line has to
-wait for it: one past its client's capacity, or its client's next refusal, close or resize.
+wait for it: its client's next refusal, close or resize, or a request past its client's capacity while
+64 such requests or 1048576 bytes of their lines wait.
 
 Example:
   desk serve --workers 4 < examples/clients.jsonl

@@ -1,5 +1,5 @@
 -- The lines of `serve`.
-use Rattle.std.specs.Prelude.{◌≡◌, ℕ, ◌^◌, ◌<◌, List, [], ◌∷◌, true, codes}
+use Rattle.std.specs.Prelude.{◌≡◌, ℕ, ◌^◌, ◌<◌, List, [], ◌∷◌, Option, Some, None, true, codes}
 use Rattle.serde_json.specs.Data.{Data, boolean, object, member, no_members}
 use Rattle.serde_json.specs.View.{view}
 use Rattle.desk_wire.specs.Parts.{IsName, IsObject, with_name, with_number}
@@ -12,6 +12,13 @@ pub data Line : Type 0 where
   Request : (name service : List ℕ) → (inputs : Data) → Line
   Close : (name : List ℕ) → Line
   Resize : (name : List ℕ) → (capacity : ℕ) → Line
+
+-- the client that a line is of; a model line is of none
+abbrev pub client_of : Line → Option (List ℕ)
+client_of (Model model) = None
+client_of (Request name service inputs) = Some name
+client_of (Close name) = Some name
+client_of (Resize name capacity) = Some name
 
 -- the object that a line is
 abbrev pub object_of : Line → Data

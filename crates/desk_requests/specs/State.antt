@@ -15,7 +15,7 @@ use Rattle.dmn_plan.specs.Request as plan
 use Rattle.dmn_plan.specs.declared.fault.ModelFault.{ModelFault}
 use Rattle.dmn_plan.specs.declared.fault.TaskFault.{TaskFault}
 use Rattle.desk_wire.specs.Reading.{Reading, Says}
-use Rattle.desk_requests.specs.Line.{Line, Model, Request, Close, Resize}
+use Rattle.desk_requests.specs.Line.{Line, Model, Request, Close, client_of}
 
 -- the model in force after a model line: one with a fault leaves the old one
 abbrev pub newer_model : {M : Type 0} → Data → Result M ModelFault → Option (List ℕ) → Option (List ℕ)
@@ -44,10 +44,14 @@ abbrev pub with_requester : Option (List ℕ) → List ℕ → List (List ℕ) �
 with_requester None name names = names
 with_requester (Some model) name names = with_one name names
 
+-- the client of any other line counts, whether there is a model or not
+abbrev pub with_client : Option (List ℕ) → List (List ℕ) → List (List ℕ)
+with_client None names = names
+with_client (Some name) names = with_one name names
+
 abbrev pub with_caller : Option (List ℕ) → Reading Line → List (List ℕ) → List (List ℕ)
 with_caller model (Says (Request name service inputs)) names = with_requester model name names
-with_caller model (Says (Close name)) names = with_one name names
-with_caller model (Says (Resize name capacity)) names = with_one name names
+with_caller model (Says line) names = with_client (client_of line) names
 with_caller model reading names = names
 
 -- the names that ask for a lane, in the order in which they first do

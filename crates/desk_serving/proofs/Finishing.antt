@@ -1,13 +1,12 @@
 -- How `serve` ends, by how the lines and the rest were answered.
-use Rattle.std.proofs.Common.{◌≡◌, ◌≢◌, ◌+◌, ◌<◌, ◌≤◌, ℕ, List, ◌++◌, length, Option, Result, Ok, Err, OnOk, IfOk, IfErr, ap, refl, sym, ◌∙◌, subst, inl, inr, Vec, Global}
+use Rattle.std.proofs.Common.{◌≡◌, ◌≢◌, ◌+◌, ◌<◌, ◌≤◌, ℕ, List, ◌++◌, length, map, Option, Result, Ok, Err, OnOk, IfOk, IfErr, ap, refl, sym, ◌∙◌, subst, inl, inr}
 use Rattle.std.proofs.lemmas.List.{length-map}
 use Rattle.lanes.specs.Ends.{ClientEnd, SettledEnd}
-use Rattle.lanes.specs.Clients.{client_links}
 use Rattle.dmn_plan.specs.Request.{Request}
 use Rattle.feel_value.specs.declared.feel.Outcome.{Outcome}
 use Rattle.desk_serving.specs.Ending.{ServedBy, ends_lanes}
 use Rattle.desk_serving.specs.Running.{FinishesBy, GoesOn, IsHandedOut}
-use Rattle.desk_serving.specs.LanesView.{lanes_in, links_in, names_in}
+use Rattle.desk_serving.specs.LanesView.{lane_held, lanes_in, links_held, links_in, names_in}
 use Rattle.desk_serving.specs.Owed.{AreFirst, AreHanded, Lane, lane_of}
 use Rattle.desk_serving.specs.Script.{Served, ServedInPart, texts_of}
 use Rattle.desk_serving.specs.StateView.{After}
@@ -38,11 +37,11 @@ stopped Whole Whole' Part left left' wrote wrote' Memory n e = e
 -- the same ends are so many lanes
 lanes_kept : {C : Type 0} {G : Ghosts C} → (old new : Lanes C G) → links_in new ≡ links_in old → length (lanes_in new) ≡ length (lanes_in old)
 lanes_kept old new same =
-    length-map new.clients.items (λ client. lane_of client) ∙ sym (length-map new.clients.items (λ client. client_links client)) ∙ ap length same
-    ∙ length-map old.clients.items (λ client. client_links client) ∙ sym (length-map old.clients.items (λ client. lane_of client))
+    length-map new.clients.items lane_held ∙ sym (length-map new.clients.items links_held) ∙ ap length same
+    ∙ length-map old.clients.items links_held ∙ sym (length-map old.clients.items lane_held)
 
-pub lanes_begun : {C : Type 0} {G : Ghosts C} → (lanes : Lanes C G) (ends : Vec (ClientEnd Request Outcome) Global) (clients : ℕ) → lanes.clients ≡ ends → length ends.items ≡ clients → length (lanes_in lanes) ≡ clients
-lanes_begun lanes ends clients is count = length-map lanes.clients.items (λ client. lane_of client) ∙ ap (λ v. length v.items) is ∙ count
+pub lanes_begun : {C : Type 0} {G : Ghosts C} → (lanes : Lanes C G) (ends : List (ClientEnd Request Outcome)) (clients : ℕ) → lanes_in lanes ≡ map lane_of ends → length ends ≡ clients → length (lanes_in lanes) ≡ clients
+lanes_begun lanes ends clients is count = ap length is ∙ length-map ends lane_of ∙ count
 
 -- the writer failed at the rest, or memory was refused for it
 pub finishes_by : (names : List (List ℕ)) (lanes : List Lane) (wrote wrote' : Option (List ℕ)) (ended : Result (Unit {0}) FrontFault) (fault : FrontFault) → GoesOn ended → (fault ≢ Read) × (fault ≢ Long)

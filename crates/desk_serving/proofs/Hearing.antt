@@ -3,10 +3,9 @@ use Rattle.std.proofs.Common.{◌≡◌, ◌+◌, ◌<◌, ◌≤◌, ◌^◌, �
 use Rattle.std.specs.List.{flat_map}
 use Rattle.std.proofs.lemmas.List.{map-append, reverse-append, length-map, length-reverse}
 use Rattle.desk_requests.specs.Line.{Line, Reads, line_view}
-use Rattle.lanes.specs.Clients.{client_links}
-use Rattle.desk_serving.specs.LanesView.{lanes_in, links_in, names_in}
+use Rattle.desk_serving.specs.LanesView.{lane_held, lanes_in, links_held, links_in, names_in}
 use Rattle.desk_lines.specs.Lines.{ended}
-use Rattle.desk_serving.specs.Owed.{Lane, AreBooked, Hands, lane_of, unhanded}
+use Rattle.desk_serving.specs.Owed.{Lane, AreBooked, Hands, unhanded}
 use Rattle.desk_wire.specs.Reading.{Reading, Blank, Long, Syntax, Shape, Says}
 use Rattle.desk_wire.specs.Reports.{Report, Refused, report_text}
 use Rattle.desk_wire.specs.declared.word.Word.TheVariants as word
@@ -105,8 +104,8 @@ module _ {C R : Type 0} {G : Ghosts C} where
   pub kept_script : (old new : State C R G) (lines said : List (List ℕ)) → links_in new.lanes ≡ links_in old.lanes → ServedInPart (length (lanes_in new.lanes)) lines said → ServedInPart (length (lanes_in old.lanes)) lines said
   kept_script old new lines said same h =
       let count : length (lanes_in new.lanes) ≡ length (lanes_in old.lanes) =
-      length-map new.lanes.clients.items (λ client. lane_of client) ∙ sym (length-map new.lanes.clients.items (λ client. client_links client)) ∙ ap length same
-      ∙ length-map old.lanes.clients.items (λ client. client_links client) ∙ sym (length-map old.lanes.clients.items (λ client. lane_of client)) in
+      length-map new.lanes.clients.items lane_held ∙ sym (length-map new.lanes.clients.items links_held) ∙ ap length same
+      ∙ length-map old.lanes.clients.items links_held ∙ sym (length-map old.lanes.clients.items lane_held) in
       subst (λ k. ServedInPart k lines said) count h
 
   -- some of what was owed is handed out, and then a line is answered

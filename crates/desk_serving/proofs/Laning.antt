@@ -1,10 +1,12 @@
 -- What a lane's calls make of it, and what stays of a list of lanes.
-use Rattle.std.proofs.Common.{◌≡◌, ℕ, zero, suc, ◌+◌, ◌-◌, ◌<◌, ◌≤◌, List, [], ◌∷◌, ◌++◌, Option, Some, None, IfSome, IfNone, length, map, drop, slice_get, refl, sym, ap, ◌∙◌, arith, append-nil}
-use Rattle.std.proofs.lemmas.List.{length-map}
+use Rattle.std.proofs.Common.{◌≡◌, ℕ, zero, suc, ◌+◌, ◌-◌, ◌<◌, ◌≤◌, Bool, true, false, List, [], ◌∷◌, ◌++◌, Option, Some, None, IfSome, IfNone, length, map, drop, slice_get, length-append, refl, sym, ap, ◌∙◌, arith, append-nil, append_assoc, subst}
+use Rattle.std.specs.Prelude.{◌==◌, not}
+use Rattle.std.specs.List.{remove}
+use Rattle.std.proofs.lemmas.List.{length-map, map-append}
 use Rattle.std.proofs.lemmas.List.Sorted.{IsPermutation-refl}
 use Rattle.box_core.specs.Answer.{Ticketed}
 use Rattle.box_core.specs.History.{Report, Kept}
-use Rattle.box_core.specs.Mail.{Mail, Place, accepted_in, kept_of_place, with_capacity, with_close}
+use Rattle.box_core.specs.Mail.{Mail, Place, accepted_in, kept_of_place, with_capacity, with_close, with_request}
 use Rattle.box_core.specs.declared.work.Reply.{Reply}
 use Rattle.dmn_plan.specs.Request.{Request, request_result}
 use Rattle.feel_value.specs.declared.feel.Outcome.{Outcome}
@@ -14,7 +16,7 @@ use Rattle.lanes.specs.Clients.{put_of, mail_of, came_to, reply_of}
 use Rattle.lanes.specs.Polls.{Polls, TakenIn, left_by}
 use Rattle.lanes.proofs.Mails.{changed_length, got}
 use Rattle.desk_lines.specs.Lines.{ended}
-use Rattle.desk_serving.specs.Owed.{Lane, lane_of, due, HandsOwn, with_closed, with_handed}
+use Rattle.desk_serving.specs.Owed.{Lane, lane_of, due, HandsOwn, with_closed, with_handed, with_put, with_waits}
 use Rattle.desk_wire.specs.Reports as reports
 use Rattle.desk_serving.proofs.Owing.{due-next, of_other, of_same}
 use Rattle.desk_requests.proofs.Names.{name_itself, get_map}
@@ -175,3 +177,71 @@ sized_lane old new n put mail = lane_is (lane_of new) (lane_of old) (ap (map wor
 -- it was left as it is
 pub kept_lane : (old new : ClientEnd Request Outcome) → put_of new ≡ put_of old → mail_of new ≡ mail_of old → lane_of new ≡ lane_of old
 kept_lane old new put mail = lane_is (lane_of new) (lane_of old) (ap (map work_of) put) (ap (λ m. m.handed) mail) (ap (λ m. m.closed) mail)
+
+-- a request was put
+pub put_lane : (old new : ClientEnd Request Outcome) (ticket : ℕ) (q : Request) → put_of new ≡ put_of old ++ (record { ticket = ticket; work = q }) ∷ [] → mail_of new ≡ with_request q true (mail_of old)
+    → lane_of new ≡ with_put (lane_of old) q
+put_lane old new ticket q put mail =
+    lane_is (lane_of new) (with_put (lane_of old) q) (ap (map work_of) put ∙ map-append work_of (put_of old) ((record { ticket = ticket; work = q }) ∷ [])) (ap (λ m. m.handed) mail) (ap (λ m. m.closed) mail)
+
+-- ## What waits behind a lane's requests
+
+pub waits_none : (lane : Lane) → with_waits lane [] ≡ lane
+waits_none lane = lane_is (with_waits lane []) lane (append-nil lane.put) refl refl
+
+-- one more waits
+pub waits_more : (lane : Lane) (waits waits' : List Request) (q : Request) → waits' ≡ waits ++ q ∷ [] → with_waits lane waits' ≡ with_put (with_waits lane waits) q
+waits_more lane waits waits' q e =
+    ap (with_waits lane) e ∙ lane_is (with_waits lane (waits ++ q ∷ [])) (with_put (with_waits lane waits) q) (sym (append_assoc lane.put waits (q ∷ []))) refl refl
+
+-- one was put where none waits
+pub waits_put : (lane lane' : Lane) (waits : List Request) (q : Request) → waits ≡ [] → lane' ≡ with_put lane q → with_waits lane' waits ≡ with_put (with_waits lane waits) q
+waits_put lane lane' waits q none put =
+    let free : with_waits (with_put lane q) [] ≡ with_put (with_waits lane []) q = waits_none (with_put lane q) ∙ sym (ap (λ (l : Lane). with_put l q) (waits_none lane)) in
+    ap (λ (l : Lane). with_waits l waits) put ∙ subst (λ (ws : List Request). with_waits (with_put lane q) ws ≡ with_put (with_waits lane ws) q) (sym none) free
+
+-- the first that waits was put
+pub waits_gone : (lane lane' : Lane) (waits waits' : List Request) (q : Request) → waits ≡ q ∷ waits' → lane' ≡ with_put lane q → with_waits lane' waits' ≡ with_waits lane waits
+waits_gone lane lane' waits waits' q e put =
+    ap (λ (l : Lane). with_waits l waits') put ∙ lane_is (with_waits (with_put lane q) waits') (with_waits lane (q ∷ waits')) (append_assoc lane.put (q ∷ []) waits') refl refl ∙ sym (ap (with_waits lane) e)
+
+pub first_gone : {A B : Type 0} (f : A → B) (xs : List A) (x : A) → slice_get xs 0 ≡ Some x → map f xs ≡ f x ∷ map f (remove xs 0)
+first_gone f [] x e = cc
+first_gone f (y ∷ xs) x e = let is : y ≡ x = cc in ap (λ z. f z ∷ map f xs) is
+
+pub get_front : {X : Type 0} (xs ys : List X) (c : ℕ) (x : X) → slice_get xs c ≡ Some x → slice_get (xs ++ ys) c ≡ Some x
+get_front [] ys c x e = cc
+get_front (y ∷ xs) ys zero x e = e
+get_front (y ∷ xs) ys (suc c) x e = get_front xs ys c x e
+
+pub dropped_front : {X : Type 0} (n : ℕ) (xs ys : List X) → drop n (xs ++ ys) ≡ [] → drop n xs ≡ []
+dropped_front zero [] ys e = refl
+dropped_front zero (x ∷ xs) ys e = cc
+dropped_front (suc n) [] ys e = refl
+dropped_front (suc n) (x ∷ xs) ys e = dropped_front n xs ys e
+
+pub waits_whole : (client : ClientEnd Request Outcome) (waits : List Request) → waits ≡ [] → accepted_in (mail_of client) ≡ (mail_of client).handed
+    → drop (lane_of client).handed ((lane_of client).put ++ waits) ≡ []
+waits_whole client waits none whole =
+    subst (λ (ws : List Request). drop (lane_of client).handed ((lane_of client).put ++ ws) ≡ []) (sym none)
+    (ap (drop (lane_of client).handed) (append-nil (lane_of client).put) ∙ whole_dropped client whole)
+
+pub waits_within : (client : ClientEnd Request Outcome) (waits : List Request) → (lane_of client).handed ≤ length ((lane_of client).put ++ waits)
+waits_within client waits = let h = handed_within client in let n = length-append (lane_of client).put waits in omega (arith, h, n)
+
+-- nothing is in a list of no length
+pub none_in : {X : Type 0} (xs : List X) → length xs ≡ 0 → xs ≡ []
+none_in [] e = refl
+none_in (x ∷ xs) e = absurd (omega (arith, e))
+
+pub empty_by : (b : Bool) (n : ℕ) → b ≡ (n == 0) → b ≡ true → n ≡ 0
+empty_by b n e t = grind arith
+
+pub is_so : (b : Bool) → not b ≡ false → b ≡ true
+is_so true e = refl
+is_so false e = cc
+
+-- what is moved, one after another, from the head of a list to the end of another
+pub moved_step : {A B : Type 0} (f : B → A) (xs xs' : List A) (x : A) (ys ys' : List B) (y : B) (all : List A) → xs' ≡ xs ++ x ∷ [] → ys ≡ y ∷ ys' → x ≡ f y → xs ++ map f ys ≡ all → xs' ++ map f ys' ≡ all
+moved_step f xs xs' x ys ys' y all grown shrunk same before =
+    ap (λ zs. zs ++ map f ys') grown ∙ append_assoc xs (x ∷ []) (map f ys') ∙ ap (λ z. xs ++ z ∷ map f ys') same ∙ ap (λ zs. xs ++ map f zs) (sym shrunk) ∙ before

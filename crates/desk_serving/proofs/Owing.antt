@@ -1,11 +1,10 @@
 -- What handing out does to what is owed.
-use Rattle.std.proofs.Common.{◌≡◌, ◌+◌, ◌<◌, ℕ, zero, suc, Bool, true, false, List, [], ◌∷◌, ◌++◌, Option, Some, None, length, drop, slice_get, slice_set, slice_index_or, if◌then◌else◌, ◌||◌, refl, sym, ap, ◌∙◌, arith, append_assoc, append-nil, add-one, subst}
+use Rattle.std.proofs.Common.{◌≡◌, ◌+◌, ℕ, zero, suc, Bool, true, false, List, [], ◌∷◌, ◌++◌, Option, Some, None, length, drop, slice_get, slice_set, if◌then◌else◌, refl, sym, ap, ◌∙◌, arith, append_assoc, append-nil, add-one, subst}
 use Rattle.std.specs.Prelude.{bytes_eq}
 use Rattle.std.specs.List.{flat_map}
 use Rattle.std.proofs.lemmas.Grind.{flat_map-append}
 use Rattle.std.proofs.lemmas.List.{map-append}
 use Rattle.std.proofs.lemmas.List.Elements.{filter-append}
-use Rattle.std.proofs.lemmas.Slice.Eq.{bytes_eq-Decides}
 use Rattle.dmn_plan.specs.Request.{Request, request_result}
 use Rattle.desk_lines.specs.Lines.{ended}
 use Rattle.desk_serving.specs.Owed.{Lane, replies, due, due_to, due_to_name, unhanded, AreHanded, AreOwn, AreFirst, AreFirstOwn, Hands, HandsOwn, HandsThen, with_handed}

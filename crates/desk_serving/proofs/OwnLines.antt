@@ -1,5 +1,5 @@
 -- What a client is told follows from its own lines.
-use Rattle.std.proofs.Common.{◌≡◌, ℕ, zero, suc, Bool, true, false, not, ◌&&◌, ◌||◌, if◌then◌else◌, List, [], ◌∷◌, ◌++◌, Option, Some, None, Result, Ok, Err, length, map, take, refl, sym, ap, ap₂, ◌∙◌, append-nil, subst}
+use Rattle.std.proofs.Common.{◌≡◌, ℕ, zero, suc, Bool, true, false, not, ◌||◌, if◌then◌else◌, List, [], ◌∷◌, ◌++◌, Option, Some, None, Result, Ok, Err, length, map, take, refl, sym, ap, ap₂, ◌∙◌, append-nil, subst}
 use Rattle.std.specs.Prelude.{bytes_eq}
 use Rattle.std.proofs.lemmas.List.{map-append}
 use Rattle.serde_json.specs.Data.{Data}
@@ -16,7 +16,7 @@ use Rattle.desk_requests.specs.Line.{Line, Model, Request, Close, Resize}
 use Rattle.desk_serving.specs.Script.{of_client, same_client}
 use Rattle.desk_requests.specs.State.{callers, closes, has_lane, in_force, is_closed, number_after, requests, requests_under, with_one, with_caller, with_requester, with_request_of}
 use Rattle.desk_requests.specs.Due.{answer, answers, capacity_answer, close_answer, line_answer, model_answer, request_answer, resize_answer, task_answer}
-use Rattle.desk_serving.specs.Own.{OwnLine, OwnLinesDecide, is_of, own_lines_of, told_to, with_own, without_number}
+use Rattle.desk_serving.specs.Own.{OwnLine, OwnLinesDecide, is_of, own_lines_of, told_to, without_number}
 use Rattle.desk_serving.proofs.Owing.{of_client-append, of_other, of_same}
 use Rattle.desk_requests.proofs.Names.{name_itself, or_true, same_name}
 

@@ -1,22 +1,25 @@
 -- What stays of a list of lanes, and what a request that is put adds to what is owed.
-use Rattle.std.proofs.Common.{◌≡◌, ℕ, zero, suc, ◌+◌, ◌<◌, ◌≤◌, Bool, true, false, List, [], ◌∷◌, ◌++◌, Option, Some, None, length, map, drop, slice_get, length-append, string_bytes, slice_set, slice_index_or, if◌then◌else◌, refl, sym, ap, ◌∙◌, arith, append_assoc, append-nil, subst}
+use Rattle.std.proofs.Common.{◌≡◌, ℕ, zero, suc, ◌+◌, ◌<◌, ◌≤◌, Bool, true, false, List, [], ◌∷◌, ◌++◌, Option, Some, None, length, map, drop, take, slice_get, length-append, string_bytes, slice_set, slice_index_or, if◌then◌else◌, refl, sym, ap, ◌∙◌, arith, append_assoc, append-nil, subst}
 use Rattle.std.specs.Prelude.{bytes_eq, nat_le}
 use Rattle.std.proofs.lemmas.Bool.Decides.{nat_tests}
-use Rattle.std.proofs.lemmas.List.{length-map, map-append}
+use Rattle.std.proofs.lemmas.List.{length-map, map-append, take_all}
+use Rattle.std.specs.Arc.{arc_value}
 use Rattle.dmn_plan.specs.Request.{Request, request_result}
-use Rattle.feel_value.specs.declared.feel.Outcome.{Outcome}
-use Rattle.lanes.specs.Ends.{ClientEnd}
+use Rattle.lanes.specs.Clients.{client_links}
+use Rattle.lanes.specs.Links.{Link}
 use Rattle.lanes.proofs.Making.{map_set}
-use Rattle.desk_serving.specs.LanesView.{ArePolled, IsPolled, lanes_in, names_in}
+use Rattle.desk_serving.specs.LanesView.{AreClear, ArePolled, IsPolled, client_held, lane_held, lanes_in, links_held, names_in, waits_in}
+use Rattle.desk_serving.specs.declared.client_lane.ClientLane.{ClientLane}
 use Rattle.desk_serving.specs.declared.named_lanes.Lanes.{Lanes}
 use Rattle.desk_lines.specs.Lines.{ended}
-use Rattle.desk_serving.specs.Owed.{Lane, lane_of, replies, due, due_to, due_to_name, unhanded, Hands, HandsOwn, HandsThen, with_put}
+use Rattle.desk_serving.specs.Owed.{Lane, lane_of, replies, due, due_to, due_to_name, unhanded, Hands, HandsOwn, HandsThen, with_put, with_waits}
 use Rattle.desk_requests.specs.State.{AreDistinct, with_lane}
 use Rattle.desk_wire.specs.Reports.{Report, Of, Reply, report_text}
 use Rattle.desk_wire.specs.declared.report.Told.{Told}
 use Rattle.desk_serving.specs.Script.{of_client}
 use Rattle.feel_value.specs.Distinct.{is_among}
 use Rattle.desk_requests.proofs.Callers.{distinct-push}
+use Rattle.desk_serving.proofs.Laning.{waits_none, waits_within}
 use Rattle.desk_serving.proofs.Owing.{of_other, of_same, due_to_own, due_to_other, due-whole, set_at, own_hands, hands_then_report, unhanded_at, unhanded_with}
 use Rattle.desk_requests.proofs.Names.{among_at, same_name, name_itself, get_map, get_at, get_inside}
 use Rattle.model_marks.specs.declared.mark.Catalog.{Ghosts}
@@ -35,48 +38,95 @@ pub some_same : {X : Type 0} (o : Option X) (x y : X) → o ≡ Some x → o ≡
 some_same o x y p q = cc
 
 -- the lane at a place, as it is held
-pub lane_at : (clients : List (ClientEnd Request Outcome)) (c : ℕ) (client : ClientEnd Request Outcome) → c < length clients → client ≡ slice_index_or clients c client
-    → slice_get (map (λ (x : ClientEnd Request Outcome). lane_of x) clients) c ≡ Some (lane_of client)
-lane_at clients c client lt is = get_map (λ (x : ClientEnd Request Outcome). lane_of x) clients c client (get_at clients c client lt is)
+pub lane_at : {C : Type 0} → (clients : List (ClientLane C)) (c : ℕ) (client : ClientLane C) → c < length clients → client ≡ slice_index_or clients c client
+    → slice_get (map lane_held clients) c ≡ Some (lane_held client)
+lane_at clients c client lt is = get_map lane_held clients c client (get_at clients c client lt is)
 
-pub lanes_set : (clients : List (ClientEnd Request Outcome)) (c : ℕ) (new : ClientEnd Request Outcome)
-    → map (λ (x : ClientEnd Request Outcome). lane_of x) (slice_set clients c new) ≡ slice_set (map (λ (x : ClientEnd Request Outcome). lane_of x) clients) c (lane_of new)
-lanes_set clients c new = map_set (λ (x : ClientEnd Request Outcome). lane_of x) clients c new
+pub lanes_set : {C : Type 0} → (clients : List (ClientLane C)) (c : ℕ) (new : ClientLane C) → map lane_held (slice_set clients c new) ≡ slice_set (map lane_held clients) c (lane_held new)
+lanes_set clients c new = map_set lane_held clients c new
 
-pub client_hands : (names : List (List ℕ)) (clients : List (ClientEnd Request Outcome)) (c : ℕ) (name : List ℕ) (old new : ClientEnd Request Outcome) (s t : List ℕ) → AreDistinct names → slice_get names c ≡ Some name
-    → c < length clients → old ≡ slice_index_or clients c old → HandsOwn name (lane_of old) (lane_of new) s t
-    → Hands names (map (λ (x : ClientEnd Request Outcome). lane_of x) clients) (map (λ (x : ClientEnd Request Outcome). lane_of x) (slice_set clients c new)) s t
+-- no more results were handed out than requests were put
+pub lanes_within : {C : Type 0} → (clients : List (ClientLane C)) (c : ℕ) (lane : Lane) → slice_get (map lane_held clients) c ≡ Some lane → lane.handed ≤ length lane.put
+lanes_within [] c lane e = cc
+lanes_within (x ∷ clients) zero lane e = let is : lane_held x ≡ lane = cc in subst (λ (l : Lane). l.handed ≤ length l.put) is (waits_within x.client (waits_in x))
+lanes_within (x ∷ clients) (suc c) lane e = lanes_within clients c lane e
+
+pub client_hands : {C : Type 0} → (names : List (List ℕ)) (clients : List (ClientLane C)) (c : ℕ) (name : List ℕ) (old new : ClientLane C) (s t : List ℕ) → AreDistinct names → slice_get names c ≡ Some name
+    → c < length clients → old ≡ slice_index_or clients c old → HandsOwn name (lane_held old) (lane_held new) s t
+    → Hands names (map lane_held clients) (map lane_held (slice_set clients c new)) s t
 client_hands names clients c name old new s t dis at lt is h =
-    let before = map (λ (x : ClientEnd Request Outcome). lane_of x) clients in
+    let before = map lane_held clients in
     subst (λ (ls : List Lane). Hands names before ls s t) (sym (lanes_set clients c new))
-    (own_hands names before c name (lane_of old) (lane_of new) s t dis at (lane_at clients c old lt is) h)
+    (own_hands names before c name (lane_held old) (lane_held new) s t dis at (lane_at clients c old lt is) h)
 
--- one more client was polled
-polled_first : (old : List (ClientEnd Request Outcome)) (client client' : ClientEnd Request Outcome) → 0 < length old → client ≡ slice_index_or old 0 client → IsPolled client client'
-    → ArePolled 1 old (slice_set old 0 client')
-polled_first [] client client' lt is p = absurd (omega (arith, lt))
-polled_first (x ∷ old) client client' lt is p = (subst (λ (c : ClientEnd Request Outcome). IsPolled c client') is p, refl)
+module _ {C : Type 0} where
+  -- one more client was polled
+  polled_first : (old : List (ClientLane C)) (client client' : ClientLane C) → 0 < length old → client ≡ slice_index_or old 0 client → IsPolled client client' → ArePolled 1 old (slice_set old 0 client')
+  polled_first [] client client' lt is p = absurd (omega (arith, lt))
+  polled_first (x ∷ old) client client' lt is p = (subst (λ (c : ClientLane C). IsPolled c client') is p, refl)
 
-polled_suc : (n : ℕ) (old now : List (ClientEnd Request Outcome)) (client client' : ClientEnd Request Outcome) → n < length now → client ≡ slice_index_or now n client
-    → IsPolled client client' → ArePolled n old now → ArePolled (suc n) old (slice_set now n client')
-polled_suc zero old now client client' lt is p same =
-    subst (λ (cs : List (ClientEnd Request Outcome)). ArePolled 1 cs (slice_set now 0 client')) same (polled_first now client client' lt is p)
-polled_suc (suc n) [] [] client client' lt is p polled = polled
-polled_suc (suc n) [] (y ∷ now) client client' lt is p polled = polled
-polled_suc (suc n) (x ∷ old) [] client client' lt is p polled = polled
-polled_suc (suc n) (x ∷ old) (y ∷ now) client client' lt is p polled = (polled.0, polled_suc n old now client client' (omega (arith, lt)) is p polled.1)
+  polled_suc : (n : ℕ) (old now : List (ClientLane C)) (client client' : ClientLane C) → n < length now → client ≡ slice_index_or now n client
+      → IsPolled client client' → ArePolled n old now → ArePolled (suc n) old (slice_set now n client')
+  polled_suc zero old now client client' lt is p same = subst (λ (cs : List (ClientLane C)). ArePolled 1 cs (slice_set now 0 client')) same (polled_first now client client' lt is p)
+  polled_suc (suc n) [] [] client client' lt is p polled = polled
+  polled_suc (suc n) [] (y ∷ now) client client' lt is p polled = polled
+  polled_suc (suc n) (x ∷ old) [] client client' lt is p polled = polled
+  polled_suc (suc n) (x ∷ old) (y ∷ now) client client' lt is p polled = (polled.0, polled_suc n old now client client' (omega (arith, lt)) is p polled.1)
 
-pub polled_next : (n : ℕ) (old now : List (ClientEnd Request Outcome)) (client client' : ClientEnd Request Outcome) → n < length now → client ≡ slice_index_or now n client
-    → IsPolled client client' → ArePolled n old now → ArePolled (n + 1) old (slice_set now n client')
-polled_next n old now client client' lt is p polled =
-    let next : suc n ≡ n + 1 = omega arith in
-    subst (λ (k : ℕ). ArePolled k old (slice_set now n client')) next (polled_suc n old now client client' lt is p polled)
+  pub polled_next : (n : ℕ) (old now : List (ClientLane C)) (client client' : ClientLane C) → n < length now → client ≡ slice_index_or now n client
+      → IsPolled client client' → ArePolled n old now → ArePolled (n + 1) old (slice_set now n client')
+  polled_next n old now client client' lt is p polled =
+      let next : suc n ≡ n + 1 = omega arith in
+      subst (λ (k : ℕ). ArePolled k old (slice_set now n client')) next (polled_suc n old now client client' lt is p polled)
+
+-- ## Where nothing waits
+
+module _ {C : Type 0} where
+  pub clear_at : (clients : List (ClientLane C)) (c : ℕ) (client : ClientLane C) → AreClear clients → slice_get clients c ≡ Some client → client.waits.items ≡ []
+  clear_at [] c client clear e = cc
+  clear_at (x ∷ clients) zero client clear e = let is : x ≡ client = cc in subst (λ (l : ClientLane C). l.waits.items ≡ []) is clear.0
+  clear_at (x ∷ clients) (suc c) client clear e = clear_at clients c client clear.1 e
+
+  clear_set : (clients : List (ClientLane C)) (c : ℕ) (new : ClientLane C) → AreClear clients → new.waits.items ≡ [] → AreClear (slice_set clients c new)
+  clear_set [] c new clear e = tt
+  clear_set (x ∷ clients) zero new clear e = (e, clear.1)
+  clear_set (x ∷ clients) (suc c) new clear e = (clear.0, clear_set clients c new clear.1 e)
+
+  -- in the lane at a place nothing waits then either
+  pub clear_kept : (clients : List (ClientLane C)) (c : ℕ) (old new : ClientLane C) → c < length clients → old ≡ slice_index_or clients c old → (old.waits.items ≡ [] → new.waits.items ≡ []) → AreClear clients
+      → AreClear (slice_set clients c new)
+  clear_kept clients c old new lt is keeps clear = clear_set clients c new clear (keeps (clear_at clients c old clear (get_at clients c old lt is)))
+
+  clear_suc : (clients : List (ClientLane C)) (c : ℕ) (client : ClientLane C) → slice_get clients c ≡ Some client → client.waits.items ≡ [] → AreClear (take c clients) → AreClear (take (suc c) clients)
+  clear_suc [] c client e none clear = tt
+  clear_suc (x ∷ clients) zero client e none clear = let is : client ≡ x = cc in (subst (λ (l : ClientLane C). l.waits.items ≡ []) is none, tt)
+  clear_suc (x ∷ clients) (suc c) client e none clear = (clear.0, clear_suc clients c client e none clear.1)
+
+  pub clear_next : (clients : List (ClientLane C)) (c : ℕ) (client : ClientLane C) → c < length clients → client ≡ slice_index_or clients c client → client.waits.items ≡ [] → AreClear (take c clients) → AreClear (take (c + 1) clients)
+  clear_next clients c client lt is none clear =
+      let next : suc c ≡ c + 1 = omega arith in
+      subst (λ (k : ℕ). AreClear (take k clients)) next (clear_suc clients c client (get_at clients c client lt is) none clear)
+
+  pub clear_all : (clients : List (ClientLane C)) (n : ℕ) → length clients ≤ n → AreClear (take n clients) → AreClear clients
+  clear_all clients n le clear = subst AreClear (take_all n clients le) clear
+
+  -- then each lane is its client's
+  pub clear_lanes : (clients : List (ClientLane C)) → AreClear clients → map lane_of (map client_held clients) ≡ map lane_held clients
+  clear_lanes [] clear = refl
+  clear_lanes (x ∷ clients) clear =
+      let first : lane_of x.client ≡ lane_held x =
+      sym (waits_none (lane_of x.client)) ∙ ap (with_waits (lane_of x.client)) (sym (ap (map (λ waiting. arc_value waiting.work)) clear.0)) in
+      let rest = clear_lanes clients clear.1 in λ i. first i ∷ rest i
+
+  pub held_links : (clients : List (ClientLane C)) → map client_links (map client_held clients) ≡ map links_held clients
+  held_links [] = refl
+  held_links (x ∷ clients) = ap (λ (ls : List (List Link)). client_links x.client ∷ ls) (held_links clients)
 
 -- a place with a name has a lane
 pub lanes_inside : {C : Type 0} {G : Ghosts C} → (lanes : Lanes C G) (place : ℕ) → place < length (names_in lanes) → (place < length lanes.clients.items) × (place < length (lanes_in lanes))
 lanes_inside lanes place h =
     let inside = inside_of string_bytes lanes.names.items lanes.clients.items place h lanes.named in
-    (inside, let n = length-map lanes.clients.items (λ client. lane_of client) in omega (arith, n, inside))
+    (inside, let n = length-map lanes.clients.items lane_held in omega (arith, n, inside))
 
 -- the same place before and after results were handed out
 pub same_at : (old mid : List Lane) (c : ℕ) (x lane : Lane) → unhanded mid ≡ unhanded old → slice_get mid c ≡ Some x → slice_get old c ≡ Some lane → (x.put ≡ lane.put) × (x.closed ≡ lane.closed)

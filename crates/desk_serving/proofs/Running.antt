@@ -47,6 +47,13 @@ goes_without (Err Long) g = (λ e. cc, λ e. cc)
 goes_without (Err Write) g = absurd g
 goes_without (Err Memory) g = absurd g
 
+-- where the writer failed or memory was refused, not all lines heard were answered
+pub goes_not : (X : Type 0) (e : FrontFault) → (e ≢ Read) × (e ≢ Long) → ¬ GoesOn {X = X} (Err e)
+goes_not X Read only g = only.0 refl
+goes_not X Long only g = only.1 refl
+goes_not X Write only g = g
+goes_not X Memory only g = g
+
 -- nothing is read or written
 pub stops_unread : (Part : List (List ℕ) → List (List ℕ) → Type 0) (left wrote : Option (List ℕ)) → Part [] [] → Stops Part left left wrote wrote
 stops_unread Part left wrote h = record {

@@ -114,6 +114,10 @@ pub record Stands (named earlier : List (Reading Line)) (known : List (List ℕ)
 abbrev pub with_put : Lane → Request → Lane
 with_put lane request = record { put = lane.put ++ request ∷ []; handed = lane.handed; closed = lane.closed }
 
+-- the lane with more requests, in order
+abbrev pub with_waits : Lane → List Request → Lane
+with_waits lane waits = record { put = lane.put ++ waits; handed = lane.handed; closed = lane.closed }
+
 abbrev pub with_handed : Lane → Lane
 with_handed lane = record { put = lane.put; handed = lane.handed + 1; closed = lane.closed }
 

@@ -1,10 +1,10 @@
 -- A client's own lines, from which all that it is told follows.
 --
 -- Each definition is over the lines read so far, the newest first, as in `State`.
-use Rattle.std.specs.Prelude.{◌≡◌, ℕ, Bool, true, false, if◌then◌else◌, List, [], ◌∷◌, Option, Some, map, bytes_eq}
+use Rattle.std.specs.Prelude.{◌≡◌, ℕ, Bool, true, false, if◌then◌else◌, List, [], ◌∷◌, Option, Some, None, map, bytes_eq}
 use Rattle.desk_wire.specs.Reading.{Reading, Says}
 use Rattle.desk_wire.specs.Reports.{Report, Loaded, Faulty, Refused, Of, Reply}
-use Rattle.desk_requests.specs.Line.{Line, Model, Request, Close, Resize}
+use Rattle.desk_requests.specs.Line.{Line, client_of}
 use Rattle.desk_serving.specs.Script.{Served, of_client}
 use Rattle.desk_requests.specs.State.{has_lane, in_force}
 
@@ -13,12 +13,13 @@ pub record OwnLine : Type 0 where
   pub model : Option (List ℕ)
   pub says : Line
 
+abbrev pub is_named : List ℕ → Option (List ℕ) → Bool
+is_named name None = false
+is_named name (Some n) = bytes_eq n name
+
 -- whether a line is of this client
 abbrev pub is_of : List ℕ → Line → Bool
-is_of name (Model json) = false
-is_of name (Request n service inputs) = bytes_eq n name
-is_of name (Close n) = bytes_eq n name
-is_of name (Resize n capacity) = bytes_eq n name
+is_of name line = is_named name (client_of line)
 
 abbrev pub with_own : List ℕ → Option (List ℕ) → Reading Line → List OwnLine → List OwnLine
 with_own name model (Says line) own = if is_of name line then (record { model = model; says = line }) ∷ own else own

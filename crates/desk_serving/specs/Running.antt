@@ -5,7 +5,7 @@ use Rattle.feel_value.specs.declared.feel.Outcome.{Outcome}
 use Rattle.desk_serving.specs.Ending.{IsWhole, ends_lanes}
 use Rattle.desk_serving.specs.Owed.{AreFirst, AreHanded, Lane, due_to}
 use Rattle.desk_serving.specs.Telling.{TellsAll, TellsInPart}
-use Rattle.desk_serving.specs.LanesView.{lanes_in, links_in}
+use Rattle.desk_serving.specs.LanesView.{NothingWaits, lanes_in, links_in}
 use Rattle.desk_lines.specs.Device.{Reader, Writer}
 use Rattle.desk_serving.specs.Script.{ServedInPart}
 use Rattle.desk_serving.specs.StateView.{After}
@@ -25,10 +25,12 @@ GoesOn (Err Write) = ⊥
 GoesOn (Err Memory) = ⊥
 
 module _ {C T R W : Type 0} {G : Ghosts C} (seen_reader : R → Reader) (seen_writer : W → Writer) where
-  -- The lines heard are answered, but for what the lanes owe. The front keeps its ends, its reader and its writer.
+  -- The lines heard are answered, but for what the lanes owe, and where they all are, nothing waits. The front keeps its ends, its
+  -- reader and its writer.
   pub record Runs {X : Type 0} (old new : ServeRun C T R W G) (ended : Result X FrontFault) : Type 0 where
     pub ran : Ran (After new.state) (ServedInPart (length (lanes_in old.state.lanes))) (seen_reader old.reader.now) (seen_reader new.reader.now) (seen_writer old.writer.now) (seen_writer new.writer.now) ended
     pub writes : (ended ≢ Err Write) → (seen_writer new.writer.now).faults ≡ (seen_writer old.writer.now).faults
+    pub waits : GoesOn ended → NothingWaits new.state.lanes
     pub links : links_in new.state.lanes ≡ links_in old.state.lanes
     pub reader : new.reader.ghost_name ≡ old.reader.ghost_name
     pub writer : new.writer.ghost_name ≡ old.writer.ghost_name

@@ -1,8 +1,8 @@
 -- Which lines are said to which.
-use Rattle.std.specs.Prelude.{◌≡◌, ℕ, Bool, true, false, List, [], ◌∷◌, ◌++◌, Option, Some, None, map, filter, reverse, bytes_eq}
+use Rattle.std.specs.Prelude.{◌≡◌, ℕ, Bool, true, false, List, ◌++◌, Option, Some, None, map, filter, reverse, bytes_eq}
 use Rattle.desk_wire.specs.Reading.{Reading}
 use Rattle.desk_wire.specs.Reports.{Report, client_on, report_text}
-use Rattle.desk_requests.specs.Line.{Line, Reads, AreRead}
+use Rattle.desk_requests.specs.Line.{Line, AreRead}
 use Rattle.desk_requests.specs.Due.{answers}
 
 abbrev pub same_client : Option (List ℕ) → Option (List ℕ) → Bool

@@ -3,8 +3,8 @@ use Rattle.std.specs.Prelude.{◌≡◌}
 use Rattle.std.specs.Arc.{arc_value}
 use Rattle.dmn_plan.specs.Request.{Request}
 use Rattle.desk_serving.specs.Owed.{Lane, with_put}
-use Rattle.desk_serving.specs.declared.named_lanes.Submitted.{Submitted}
-use Rattle.desk_serving.specs.declared.named_lanes.Submitted.TheVariants.{Accepted, Full}
+use Rattle.desk_serving.specs.declared.client_lane.Submitted.{Submitted}
+use Rattle.desk_serving.specs.declared.client_lane.Submitted.TheVariants.{Accepted, Full}
 
 abbrev pub Submits : {C : Type 0} → Lane → Request → Submitted C → Lane → Type 0
 Submits old request Accepted new = new ≡ with_put old request

@@ -27,18 +27,18 @@ use std::sync::{Arc, Wait};
 /// From so many bytes on a line takes long to read: about as long as it takes to wake a thread.
 const LARGE: usize = 4096;
 
-/// Whether a line takes long to read.
-fn takes_long(line: &LineText) -> bool {
+/// How long a line is.
+fn bytes_of(line: &LineText) -> usize {
     match line.text() {
-        Some(bytes) => bytes.len() >= LARGE,
-        None => false,
+        Some(bytes) => bytes.len(),
+        None => 0,
     }
 }
 
-/// What has to come before what is due can be done at once.
-fn until_of<C: Catalog>(due: &Option<DueHere<'_, C>>) -> Until {
+/// What has to come before what is due to a line of so many bytes can be done at once.
+fn until_of<C: Catalog>(due: &Option<DueHere<'_, C>>, bytes: usize) -> Until {
     match due {
-        Some(Due::Asked(_, _, seat, _)) => Until::Room(seat.place),
+        Some(Due::Asked(_, _, seat, _)) => Until::Room(seat.place, bytes),
         Some(Due::Refused(_, seat, _)) => Until::Whole(seat.place),
         Some(Due::Closed(_, seat)) => Until::Whole(seat.place),
         Some(Due::Resized(_, seat, _)) => Until::Whole(seat.place),
@@ -69,7 +69,7 @@ impl<'a, C: Catalog, R: Wait> State<'a, C, R> {
     /// Has workers woken while a line is read: for what waits, where reading takes long; or one for the request that the line may
     /// be, where all that was put before is answered.
     fn call_before(&self, line: &LineText, unwritten: &Unwritten) {
-        if takes_long(line) {
+        if bytes_of(line) >= LARGE {
             self.lanes.call_workers();
             return;
         }
@@ -92,18 +92,18 @@ impl<'a, C: Catalog, R: Wait> State<'a, C, R> {
         name: &str,
         seat: Seat,
         work: Arc<Task<C>>,
-        text: &mut Vec<u8>,
+        bytes: usize,
     ) -> Result<(), AllocError>
         requires few { HasRoom self.old }
         requires seat { IsSeat self.old name.now (Some seat) }
         requires yet { seat.is_closed ≡ false }
         ensures same { links_in self.new.lanes ≡ links_in self.old.lanes }
-        ensures answers { OnOk result ((lane : Lane) → slice_get (lanes_in self.old.lanes) seat.place ≡ Some lane →
+        ensures answers { OnOk result ((text : List ℕ) (lane : Lane) → slice_get (lanes_in self.old.lanes) seat.place ≡ Some lane →
             IsAnswered self.old name.now (slice_set (lanes_in self.old.lanes) seat.place (with_put lane (arc_value work)))
-            (reports.Reply name.now (length lane.put) (request_result (arc_value work))) text.old.items text.new.items self.new) }
+            (reports.Reply name.now (length lane.put) (request_result (arc_value work))) text text self.new) }
     {
         self.lanes.name_at(alloc, seat.place, name)?;
-        self.lanes.put(self.rt, alloc, seat.place, work, text)
+        self.lanes.put(seat.place, work, bytes)
     }
 
     /// Refuses a client's line behind the client's earlier results.
@@ -167,12 +167,13 @@ impl<'a, C: Catalog, R: Wait> State<'a, C, R> {
         Report::Of(name, number, Told::Resized(capacity)).add_to(alloc, text)
     }
 
-    /// Does what is due to a line.
+    /// Does what is due to a line of so many bytes.
     fn settle(
         &mut self,
         alloc: Global,
         number: u64,
         due: DueHere<'_, C>,
+        bytes: usize,
         text: &mut Vec<u8>,
     ) -> Result<(), AllocError>
         requires few { HasRoom self.old }
@@ -187,7 +188,7 @@ impl<'a, C: Catalog, R: Wait> State<'a, C, R> {
             }
             Due::Told(report) => report.add_to(alloc, text),
             Due::Refused(name, seat, why) => self.refuse(alloc, number, name, seat, why, text),
-            Due::Asked(name, _, seat, work) => self.put(alloc, name, seat, work, text),
+            Due::Asked(name, _, seat, work) => self.put(alloc, name, seat, work, bytes),
             Due::Closed(name, seat) => self.close(alloc, number, name, seat, text),
             Due::Resized(name, seat, capacity) => {
                 self.resize(alloc, number, name, seat, capacity, text)
@@ -195,13 +196,14 @@ impl<'a, C: Catalog, R: Wait> State<'a, C, R> {
         }
     }
 
-    /// Does what is due to a line that is heard so, or refuses it: nothing is said to one that is blank.
+    /// Does what is due to a line of so many bytes that is heard so, or refuses it: nothing is said to one that is blank.
     fn settle_heard(
         &mut self,
         alloc: Global,
         number: u64,
         heard: &Heard<'_>,
         due: Option<DueHere<'_, C>>,
+        bytes: usize,
         text: &mut Vec<u8>,
     ) -> Result<(), AllocError>
         requires few { HasRoom self.old }
@@ -212,7 +214,7 @@ impl<'a, C: Catalog, R: Wait> State<'a, C, R> {
         let Some(due) = due else {
             return add_refusal(alloc, number, heard, text);
         };
-        self.settle(alloc, number, due, text)
+        self.settle(alloc, number, due, bytes, text)
     }
 }
 
@@ -240,7 +242,7 @@ impl<'a, C: Catalog, R: Wait> Clerk for State<'a, C, R> {
     } };
 
     /// Hands out results, each written as soon as no other is at hand, until the line can be answered at once. So no result
-    /// that is ready waits for another client's.
+    /// that is ready waits for another client's. A request is put at once, or waits in its lane, as long as not too much waits.
     fn answer<W: Sink>(
         &mut self,
         alloc: Global,
@@ -252,14 +254,15 @@ impl<'a, C: Catalog, R: Wait> Clerk for State<'a, C, R> {
         self.call_before(line, unwritten);
         // What is heard borrows from the reader, so that is set aside meanwhile.
         let mut texts = mem::replace(&mut self.texts, JsonReader::new());
+        let bytes = bytes_of(line);
         let text = {
             let heard = hear(alloc, &mut texts, line)?;
             let due = self.due_to(alloc, number, &heard)?;
-            let until = until_of(&due);
+            let until = until_of(&due, bytes);
             hand_out_until(self.rt, alloc, &mut self.lanes, until, writer, unwritten)?;
             let mut text = Vec::new(alloc);
             self.lanes.hand_out_some(alloc, until, &mut text)?;
-            self.settle_heard(alloc, number, &heard, due, &mut text)?;
+            self.settle_heard(alloc, number, &heard, due, bytes, &mut text)?;
             text
         };
         self.texts = texts;

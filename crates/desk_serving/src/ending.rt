@@ -3,7 +3,7 @@ ghost use Rattle.std.specs.Prelude.{◌≡◌, ◌<◌, ◌-◌, ◌^◌, ◌≤
 ghost use Rattle.lanes.specs.Workers.{worker_links};
 ghost use Rattle.lanes.specs.Links.{AreOfOneCall};
 ghost use Rattle.desk_serving.specs.Ending.{IsReady, IsRun, IsWhole, ends_lanes};
-ghost use Rattle.desk_serving.specs.LanesView.{lanes_in, links_in, names_in};
+ghost use Rattle.desk_serving.specs.LanesView.{NothingWaits, lanes_in, links_in, names_in};
 ghost use Rattle.desk_lines.specs.Lines.{ended};
 ghost use Rattle.desk_serving.specs.Owed.{AreFirst, AreFirstOwn, AreHanded, AreOwn, Lane, lane_in};
 ghost use Rattle.desk_requests.specs.State.{AreDistinct};
@@ -11,8 +11,9 @@ ghost use Rattle.desk_wire.specs.Reports as reports;
 ghost use Rattle.desk_wire.specs.Reports.{report_text};
 ghost use Rattle.desk_serving.specs.Telling.{HandsOut, WritesOut};
 
+use crate::client_lane::clients_of;
 use crate::named_lanes::Lanes;
-use crate::waiting::hand_out_round;
+use crate::waiting::{hand_out_round, hand_out_waits};
 use box_core::Reply;
 use crew::Crew;
 use desk_lines::{FrontFault, Sink, Unwritten, is_cut};
@@ -23,7 +24,7 @@ use model_marks::Catalog;
 use std::alloc::{AllocError, Global};
 use std::sync::Wait;
 
-/// Hands out results, round by round, while workers run. What is said last may wait to be written.
+/// Hands out results, round by round, while workers run, once no request waits. What is said last may wait to be written.
 fn hand_out_beside<C: Catalog, R: Wait, W: Sink>(
     rt: &R,
     alloc: Global,
@@ -33,11 +34,12 @@ fn hand_out_beside<C: Catalog, R: Wait, W: Sink>(
     unwritten: &mut Unwritten,
 ) -> Result<(), FrontFault>
     requires counts { (W.seen writer.old).faults < 2 ^ 64 - 1 }
-    requires nothing_waits { unwritten.old ≡ [] }
+    requires clear { NothingWaits lanes.old }
     ensures same { links_in lanes.new ≡ links_in lanes.old }
     ensures names { names_in lanes.new ≡ names_in lanes.old }
+    ensures clear { OnOk result (NothingWaits lanes.new) }
     ensures handed { HandsOut (AreHanded (names_in lanes.old) (lanes_in lanes.old) (lanes_in lanes.new)) (AreFirst (names_in lanes.old) (lanes_in lanes.old))
-        (W.seen writer.old) (W.seen writer.new) [] unwritten.new result }
+        (W.seen writer.old) (W.seen writer.new) unwritten.old unwritten.new result }
 {
     for _ in rt.forever() {
         let seen = lanes.answers();
@@ -50,7 +52,31 @@ fn hand_out_beside<C: Catalog, R: Wait, W: Sink>(
     Ok(())
 }
 
-/// Tells the workers to stop, and hands out results until they have ended.
+/// Hands out results until no request waits, tells the workers to stop, and hands out results until they have ended. What is said
+/// last may wait to be written.
+fn hand_out_last<C: Catalog, R: Wait, W: Sink>(
+    rt: &R,
+    alloc: Global,
+    crew: &Crew,
+    lanes: &mut Lanes<C>,
+    writer: &mut W,
+    unwritten: &mut Unwritten,
+) -> Result<(), FrontFault>
+    requires counts { (W.seen writer.old).faults < 2 ^ 64 - 1 }
+    requires nothing_waits { unwritten.old ≡ [] }
+    ensures same { links_in lanes.new ≡ links_in lanes.old }
+    ensures names { names_in lanes.new ≡ names_in lanes.old }
+    ensures clear { OnOk result (NothingWaits lanes.new) }
+    ensures handed { HandsOut (AreHanded (names_in lanes.old) (lanes_in lanes.old) (lanes_in lanes.new)) (AreFirst (names_in lanes.old) (lanes_in lanes.old))
+        (W.seen writer.old) (W.seen writer.new) [] unwritten.new result }
+{
+    hand_out_waits(rt, alloc, lanes, writer, unwritten)?;
+    crew.stop();
+    hand_out_beside(rt, alloc, crew, lanes, writer, unwritten)?;
+    Ok(())
+}
+
+/// Tells the workers to stop once no request waits, and hands out results until they have ended.
 pub fn end_workers<C: Catalog, R: Wait, W: Sink>(
     rt: &R,
     alloc: Global,
@@ -61,12 +87,12 @@ pub fn end_workers<C: Catalog, R: Wait, W: Sink>(
     requires counts { (W.seen writer.old).faults < 2 ^ 64 - 1 }
     ensures same { links_in lanes.new ≡ links_in lanes.old }
     ensures names { names_in lanes.new ≡ names_in lanes.old }
+    ensures clear { OnOk result (NothingWaits lanes.new) }
     ensures written { WritesOut (λ _. AreHanded (names_in lanes.old) (lanes_in lanes.old) (lanes_in lanes.new)) (AreFirst (names_in lanes.old) (lanes_in lanes.old))
         (W.seen writer.old) (W.seen writer.new) result }
 {
-    crew.stop();
     let mut unwritten = Unwritten::new(alloc);
-    let handed = hand_out_beside(rt, alloc, crew, lanes, writer, &mut unwritten);
+    let handed = hand_out_last(rt, alloc, crew, lanes, writer, &mut unwritten);
     if is_cut(&handed) {
         return handed;
     }
@@ -207,6 +233,7 @@ pub fn end_lanes<C: Catalog, W: Sink>(
     writer: &mut W,
 ) -> Result<Vec<Settled<Task<C>>>, FrontFault>
     requires ends { AreOfOneCall (links_in lanes) (map worker_links workers.items) }
+    requires clear { NothingWaits lanes }
     // No request was put into a lane without a name.
     requires new { (place : ℕ) (lane : Lane) → length (names_in lanes) ≤ place → slice_get (lanes_in lanes) place ≡ Some lane → lane.put ≡ [] }
     requires counts { (W.seen writer.old).faults < 2 ^ 64 - 1 }
@@ -215,7 +242,8 @@ pub fn end_lanes<C: Catalog, W: Sink>(
         (W.seen writer.old) (W.seen writer.new) result }
 {
     let Lanes { names, clients, .. } = lanes;
-    let Ok(mut ends) = settle(clients, workers) else {
+    let own = clients_of(alloc, clients)?;
+    let Ok(mut ends) = settle(own, workers) else {
         return Err(FrontFault::Memory);
     };
     hand_out_rest(alloc, &names, &mut ends, writer)?;

@@ -1,11 +1,13 @@
 //! `serve`: many clients at once. Each client's answers come in the order of its lines. None is kept back for another client's
-//! slow request, unless a line has to wait for that.
+//! slow request, unless a refusal, close or resize has to wait for that, or too much waits.
 #![tactic(auto)]
 
 mod answering;
+mod client_lane;
 mod deciding;
 mod ending;
 mod laws;
+mod load;
 mod named_lanes;
 mod options;
 mod resting;

@@ -1,16 +1,16 @@
 //! The clients' lanes and their names.
-ghost use Rattle.std.specs.Prelude.{◌≡◌, ◌<◌, ◌≤◌, ◌^◌, [], ℕ, List, drop, false, length, map, slice_get, slice_set, string_bytes, IfNone, IfOk, IfSome, OnOk, Some};
+ghost use Rattle.std.specs.Prelude.{◌≡◌, ◌<◌, ◌≤◌, ◌^◌, [], ℕ, List, drop, false, length, map, slice_get, slice_set, string_bytes, IfNone, IfOk, IfSome, IsTrue, OnOk, Some};
 ghost use Rattle.std.specs.Arc.{arc_value};
 ghost use Rattle.box_core.specs.Mail.{is_no_capacity};
-ghost use Rattle.dmn_plan.specs.Request.{request_result};
 ghost use Rattle.lanes.specs.Clients.{client_links};
-ghost use Rattle.desk_serving.specs.Owed.{Hands, HandsOwn, HandsThen, Lane, lane_of, unhanded, with_closed, with_put};
+ghost use Rattle.desk_serving.specs.Owed.{Hands, HandsThen, Lane, lane_of, unhanded, with_closed, with_put};
 ghost use Rattle.desk_requests.specs.State.{AreDistinct, AreDistinct-prop, with_lane};
 ghost use Rattle.feel_value.specs.Distinct.{is_among};
-ghost use Rattle.desk_wire.specs.Reports.{Of, Reply};
+ghost use Rattle.desk_wire.specs.Reports.{Of};
 
+use crate::client_lane::{ClientLane, lanes_of};
+use crate::load::Load;
 use crate::until::Until;
-use box_core::Refusal;
 use desk_requests::Seat;
 use desk_wire::{Report, Told};
 use dmn_plan::Task;
@@ -22,82 +22,42 @@ use std::sync::{Arc, Wait};
 /// The most lanes.
 const MOST: usize = MOST_CLIENTS as usize;
 
-/// What became of a request that was put.
-#[derive(Drop)]
-pub enum Submitted<C: Catalog> {
-    /// It was accepted.
-    Accepted,
-    /// There is no place for it, and it comes back.
-    Full(Arc<Task<C>>),
-}
-
-/// The clients' ends of the lanes, and the names of the first of them: lane by lane.
+/// The clients' lanes, and the names of the first of them: lane by lane.
 #[derive(Drop)]
 pub struct Lanes<C: Catalog> {
     pub(crate) names: Vec<String>,
-    pub(crate) clients: Vec<Client<Task<C>>>,
+    pub(crate) clients: Vec<ClientLane<C>>,
     /// How many requests of each may be outstanding; of a closed lane none.
     rooms: [u32; MOST],
+    /// What waits in the lanes.
+    load: Load,
     /// The lane whose turn it is to be looked at.
     turn: usize,
     ghost named: { length names.items ≤ length clients.items },
     ghost distinct: { AreDistinct (map string_bytes names.items) } by { AreDistinct-prop (map string_bytes names.items) },
 }
 
-/// One client's lane.
 impl<C: Catalog> Lanes<C> {
-    ghost use Rattle.desk_serving.specs.LanesView.{IsPolled};
-    ghost use Rattle.desk_serving.specs.Submits.{Submits};
-
-    /// Puts a request into a lane that is open.
-    fn submit(client: &mut Client<Task<C>>, work: Arc<Task<C>>) -> Result<Submitted<C>, AllocError>
-        requires few { length (lane_of client.old).put < 2 ^ 60 }
-        requires open { (lane_of client.old).closed ≡ false }
-        ensures same { client_links client.new ≡ client_links client.old }
-        ensures submits { IfOk result (λ submitted. Submits (lane_of client.old) (arc_value work) submitted (lane_of client.new)) }
-    {
-        match client.submit(work) {
-            Ok(_) => Ok(Submitted::Accepted),
-            Err((Refusal::Full, work)) => Ok(Submitted::Full(work)),
-            Err((Refusal::Memory, _)) => Err(AllocError),
-            Err(_) => unreachable!(),
-        }
-    }
-
-    /// Hands out the next result, if it is there, as a line at the end of the text. A whole lane costs a look at two numbers.
-    fn hand_out_next(
-        alloc: Global,
-        client: &mut Client<Task<C>>,
-        name: &str,
-        text: &mut Vec<u8>,
-    ) -> Result<(), AllocError>
-        ensures same { client_links client.new ≡ client_links client.old }
-        ensures polled { IsPolled client.old client.new }
-        ensures hands { OnOk result (HandsOwn name.now (lane_of client.old) (lane_of client.new) text.old.items text.new.items) }
-    {
-        if client.is_whole() {
-            return Ok(());
-        }
-        let Some(reply) = client.poll() else {
-            return Ok(());
-        };
-        Report::Reply(name, reply.ticket, &reply.outcome).add_to(alloc, text)
-    }
-}
-
-impl<C: Catalog> Lanes<C> {
-    ghost use Rattle.desk_serving.specs.LanesView.{ArePolled, IsSeatIn, lanes_in, links_in, names_in};
+    ghost use Rattle.desk_serving.specs.LanesView.{ArePolled, IsSeatIn, NothingWaits, lanes_in, links_in, names_in};
 
     /// Lanes of this capacity without a name.
-    pub fn new(alloc: Global, clients: Vec<Client<Task<C>>>, capacity: u32) -> Lanes<C>
-        ensures { (result.names.items ≡ []) × (result.clients ≡ clients) }
+    pub fn new(
+        alloc: Global,
+        clients: Vec<Client<Task<C>>>,
+        capacity: u32,
+    ) -> Result<Lanes<C>, AllocError>
+        ensures names { IfOk result (λ lanes. lanes.names.items ≡ []) }
+        ensures lanes { IfOk result (λ lanes. lanes_in lanes ≡ map lane_of clients.items) }
+        ensures links { IfOk result (λ lanes. links_in lanes ≡ map client_links clients.items) }
     {
-        Lanes {
+        let lanes = lanes_of(alloc, clients)?;
+        Ok(Lanes {
             names: Vec::new(alloc),
-            clients,
+            clients: lanes,
             rooms: [capacity; MOST],
+            load: Load::none(),
             turn: 0,
-        }
+        })
     }
 
     /// The place of a name's lane, if it has one.
@@ -159,21 +119,62 @@ impl<C: Catalog> Lanes<C> {
         ensures names { names_in self.new ≡ names_in self.old }
         // Each lane with a name hands out its next result, unless it has not come.
         ensures polled { OnOk result (ArePolled (length (names_in self.old)) self.old.clients.items self.new.clients.items) }
+        ensures clear { OnOk result (NothingWaits self.old → NothingWaits self.new) }
         ensures hands { OnOk result (Hands (names_in self.old) (lanes_in self.old) (lanes_in self.new) text.old.items text.new.items) }
     {
         for place in 0..self.names.len() {
-            Lanes::hand_out_next(
-                alloc,
-                &mut self.clients[place],
-                self.names[place].as_str(),
-                text,
-            )?;
+            self.clients[place].hand_out_next(alloc, self.names[place].as_str(), text)?;
         }
         Ok(())
     }
 
+    /// Where there are places for requests that wait, they go on into the mailboxes: at most one in each lane. Who looks at the
+    /// lanes sees no change.
+    pub fn go_on(&mut self) -> Result<(), AllocError>
+        ensures same { links_in self.new ≡ links_in self.old }
+        ensures names { names_in self.new ≡ names_in self.old }
+        ensures lanes { OnOk result (lanes_in self.new ≡ lanes_in self.old) }
+        ensures clear { OnOk result (NothingWaits self.old → NothingWaits self.new) }
+    {
+        if self.load.is_none() {
+            return Ok(());
+        }
+        for place in 0..self.clients.len() {
+            self.go_on_at(place)?;
+        }
+        Ok(())
+    }
+
+    /// The same in one lane.
+    fn go_on_at(&mut self, place: usize) -> Result<(), AllocError>
+        requires place { place < length (lanes_in self.old) }
+        ensures same { links_in self.new ≡ links_in self.old }
+        ensures names { names_in self.new ≡ names_in self.old }
+        ensures lanes { OnOk result (lanes_in self.new ≡ lanes_in self.old) }
+        ensures clear { OnOk result (NothingWaits self.old → NothingWaits self.new) }
+    {
+        if !self.has_place(place) {
+            return Ok(());
+        }
+        let gone = self.clients[place].go_first()?;
+        self.load.take(gone);
+        Ok(())
+    }
+
+    /// Whether no request waits.
+    pub fn nothing_waits(&self) -> bool
+        ensures { IsTrue result → NothingWaits self.now }
+    {
+        for place in 0..self.clients.len() {
+            if self.clients[place].has_waiting() {
+                return false;
+            }
+        }
+        true
+    }
+
     /// Hands out at most one result from the lane that is waited for, and one from another, in lines at the end of the text. The
-    /// others take turns, so this costs the same however many lanes there are.
+    /// others take turns, so this costs the same however many lanes there are. Then requests that wait go on.
     pub fn hand_out_some(
         &mut self,
         alloc: Global,
@@ -186,7 +187,8 @@ impl<C: Catalog> Lanes<C> {
     {
         self.hand_out_at(alloc, until.place(), text)?;
         let turn = self.next_turn();
-        self.hand_out_at(alloc, turn, text)
+        self.hand_out_at(alloc, turn, text)?;
+        self.go_on()
     }
 
     /// Hands out the next result of the lane at a place, if there is a lane with a name and its result is there.
@@ -203,12 +205,7 @@ impl<C: Catalog> Lanes<C> {
         if place >= self.names.len() {
             return Ok(());
         }
-        Lanes::hand_out_next(
-            alloc,
-            &mut self.clients[place],
-            self.names[place].as_str(),
-            text,
-        )
+        self.clients[place].hand_out_next(alloc, self.names[place].as_str(), text)
     }
 
     /// Whose turn it is. The next lane has the next turn.
@@ -223,16 +220,21 @@ impl<C: Catalog> Lanes<C> {
         turn
     }
 
-    /// Whether a lane has a place for a request, or is whole.
-    pub fn has_room(&self, place: usize) -> bool {
-        let Some(client) = self.clients.get(place) else {
+    /// Whether a lane's mailbox has a place for a request, or is whole.
+    fn has_place(&self, place: usize) -> bool {
+        let Some(lane) = self.clients.get(place) else {
             return true;
         };
         let Some(room) = self.rooms.get(place) else {
             return true;
         };
-        let outstanding = client.accepted().saturating_sub(client.handed());
+        let outstanding = lane.outstanding();
         outstanding == 0 || outstanding < *room as u64
+    }
+
+    /// Whether a lane takes a request with a line of so many bytes: its mailbox has a place, or the request may wait for one.
+    pub fn has_room(&self, place: usize, bytes: usize) -> bool {
+        self.has_place(place) || self.load.has_room(bytes)
     }
 
     /// Notes how many requests of a lane may be outstanding.
@@ -267,6 +269,7 @@ impl<C: Catalog> Lanes<C> {
             let seen = self.answers();
             let said = text.len();
             self.hand_out(alloc, text)?;
+            self.go_on()?;
             self.rest(rt, text.len() > said, seen);
         }
         Ok(())
@@ -293,38 +296,18 @@ impl<C: Catalog> Lanes<C> {
         Report::Of(name, number, told).add_to(alloc, text)
     }
 
-    /// Puts a request into a lane that is open, once there is a place for it. Until then results are handed out, in lines at the end
-    /// of the text. As a line is answered only once there is a place, this never waits.
-    pub fn put<R: Wait>(
-        &mut self,
-        rt: &R,
-        alloc: Global,
-        place: usize,
-        work: Arc<Task<C>>,
-        text: &mut Vec<u8>,
-    ) -> Result<(), AllocError>
+    /// Puts a request into a lane that is open.
+    pub fn put(&mut self, place: usize, work: Arc<Task<C>>, bytes: usize) -> Result<(), AllocError>
         requires place { place < length (names_in self.old) }
         requires few { (lane : Lane) → slice_get (lanes_in self.old) place ≡ Some lane → length lane.put < 2 ^ 60 }
         requires open { (lane : Lane) → slice_get (lanes_in self.old) place ≡ Some lane → lane.closed ≡ false }
         ensures same { links_in self.new ≡ links_in self.old }
         ensures names { names_in self.new ≡ names_in self.old }
-        ensures lanes { OnOk result ((lane : Lane) → slice_get (lanes_in self.old) place ≡ Some lane →
-            unhanded (lanes_in self.new) ≡ unhanded (slice_set (lanes_in self.old) place (with_put lane (arc_value work)))) }
-        ensures put { OnOk result ((name : List ℕ) (lane : Lane) → slice_get (names_in self.old) place ≡ Some name → slice_get (lanes_in self.old) place ≡ Some lane →
-            HandsThen (names_in self.old) (lanes_in self.old) (lanes_in self.new) (Reply name (length lane.put) (request_result (arc_value work))) text.old.items text.new.items) }
+        ensures puts { OnOk result ((lane : Lane) → slice_get (lanes_in self.old) place ≡ Some lane → lanes_in self.new ≡ slice_set (lanes_in self.old) place (with_put lane (arc_value work))) }
     {
-        let mut work = work;
-        for _ in rt.forever() {
-            match Lanes::submit(&mut self.clients[place], work)? {
-                Submitted::Accepted => return Ok(()),
-                Submitted::Full(refused) => work = refused,
-            }
-            let seen = self.answers();
-            let said = text.len();
-            self.hand_out(alloc, text)?;
-            self.rest(rt, text.len() > said, seen);
-        }
-        unreachable!()
+        let waits = self.clients[place].put(work, bytes)?;
+        self.load.add(waits);
+        Ok(())
     }
 
     /// Closes a lane.
@@ -347,15 +330,8 @@ impl<C: Catalog> Lanes<C> {
         ensures names { names_in self.new ≡ names_in self.old }
         ensures lanes { lanes_in self.new ≡ lanes_in self.old }
     {
-        match self.clients[place].resize(capacity) {
-            Ok(()) => {
-                self.set_room(place, capacity);
-                Ok(())
-            }
-            Err(why) => match why {
-                Refusal::Memory => Err(AllocError),
-                _ => unreachable!(),
-            },
-        }
+        self.clients[place].resize(capacity)?;
+        self.set_room(place, capacity);
+        Ok(())
     }
 }

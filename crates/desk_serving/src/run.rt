@@ -3,7 +3,7 @@ ghost use Rattle.std.specs.Prelude.{ℕ, Some, slice_get, ◌≡◌, ◌≢◌, 
 ghost use Rattle.lanes.specs.Made.{fault_in};
 ghost use Rattle.desk_serving.specs.Ending.{ServedBy};
 ghost use Rattle.desk_serving.specs.Running.{FinishesBy, GoesOn, IsHandedOut, Runs};
-ghost use Rattle.desk_serving.specs.LanesView.{lanes_in, links_in, names_in};
+ghost use Rattle.desk_serving.specs.LanesView.{NothingWaits, lanes_in, links_in, names_in};
 ghost use Rattle.desk_serving.specs.Owed.{Lane};
 ghost use Rattle.lanes.specs.Links.{AreOfOneCall};
 ghost use Rattle.lanes.specs.Workers.{worker_links};
@@ -117,11 +117,12 @@ pub fn serve_marked<
     else {
         return Err(FrontFault::Memory);
     };
+    let lanes = Lanes::new(alloc, clients, options.capacity)?;
     let mut run = ServeRun {
         alloc,
         state: State {
             rt,
-            lanes: Lanes::new(alloc, clients, options.capacity),
+            lanes,
             plan: None,
             marks,
             texts: JsonReader::new(),
@@ -151,6 +152,7 @@ fn finish<C: Catalog, W: Sink>(
 ) -> Result<Vec<Settled<Task<C>>>, FrontFault>
     requires ends { AreOfOneCall (links_in lanes) (map worker_links workers.items) }
     requires new { GoesOn ended → (place : ℕ) (lane : Lane) → length (names_in lanes) ≤ place → slice_get (lanes_in lanes) place ≡ Some lane → lane.put ≡ [] }
+    requires clear { GoesOn ended → NothingWaits lanes }
     requires counts { GoesOn ended → (W.seen writer.old).faults < 2 ^ 64 - 1 }
     ensures ok { IfOk result (λ ends. (ended ≡ Ok tt) × IsHandedOut (names_in lanes) (lanes_in lanes) (W.seen writer.old).contents (W.seen writer.new).contents ends.items) }
     ensures err { IfErr result (FinishesBy (names_in lanes) (lanes_in lanes) (W.seen writer.old).contents (W.seen writer.new).contents ended) }

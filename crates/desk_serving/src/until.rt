@@ -7,8 +7,8 @@ use model_marks::Catalog;
 pub enum Until {
     /// Nothing.
     Now,
-    /// A lane has a place for a request, or is whole.
-    Room(usize),
+    /// A lane takes a request with a line of so many bytes.
+    Room(usize, usize),
     /// A lane is whole.
     Whole(usize),
     /// Each lane with a name is whole.
@@ -19,7 +19,7 @@ impl Until {
     /// Where the lane is that is waited for; past all lanes where it is no single one.
     pub fn place(&self) -> usize {
         match self {
-            Until::Room(place) => *place,
+            Until::Room(place, _) => *place,
             Until::Whole(place) => *place,
             Until::Now => usize::MAX,
             Until::AllWhole => usize::MAX,
@@ -32,7 +32,7 @@ impl<C: Catalog> Lanes<C> {
     pub fn has_come(&self, until: Until) -> bool {
         match until {
             Until::Now => true,
-            Until::Room(place) => self.has_room(place),
+            Until::Room(place, bytes) => self.has_room(place, bytes),
             Until::Whole(place) => self.is_whole_at(place),
             Until::AllWhole => self.is_whole(),
         }

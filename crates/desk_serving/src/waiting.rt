@@ -1,6 +1,6 @@
 //! While the front waits for results, each is written as soon as no other is at hand.
-ghost use Rattle.std.specs.Prelude.{◌≡◌, ◌<◌, ◌-◌, ◌^◌};
-ghost use Rattle.desk_serving.specs.LanesView.{lanes_in, links_in, names_in};
+ghost use Rattle.std.specs.Prelude.{◌≡◌, ◌<◌, ◌-◌, ◌^◌, OnOk};
+ghost use Rattle.desk_serving.specs.LanesView.{NothingWaits, lanes_in, links_in, names_in};
 ghost use Rattle.desk_serving.specs.Owed.{AreFirst, AreHanded};
 ghost use Rattle.desk_serving.specs.Telling.{HandsOut};
 
@@ -11,8 +11,8 @@ use model_marks::Catalog;
 use std::alloc::Global;
 use std::sync::Wait;
 
-/// Hands out at most one result from each lane, and tells whether there was one. Where there was none, all that waits is written.
-/// As that may take long, a worker is woken before for what waits in the lanes.
+/// Hands out at most one result from each lane, and tells whether there was one. Requests that wait go on. Where there was no
+/// result, all that waits is written. As that may take long, a worker is woken before for the requests in the mailboxes.
 pub fn hand_out_round<C: Catalog, W: Sink>(
     alloc: Global,
     lanes: &mut Lanes<C>,
@@ -22,11 +22,13 @@ pub fn hand_out_round<C: Catalog, W: Sink>(
     requires counts { (W.seen writer.old).faults < 2 ^ 64 - 1 }
     ensures same { links_in lanes.new ≡ links_in lanes.old }
     ensures names { names_in lanes.new ≡ names_in lanes.old }
+    ensures clear { OnOk result (NothingWaits lanes.old → NothingWaits lanes.new) }
     ensures handed { HandsOut (AreHanded (names_in lanes.old) (lanes_in lanes.old) (lanes_in lanes.new)) (AreFirst (names_in lanes.old) (lanes_in lanes.old))
         (W.seen writer.old) (W.seen writer.new) unwritten.old unwritten.new result }
 {
     let mut text = Vec::new(alloc);
     lanes.hand_out(alloc, &mut text)?;
+    lanes.go_on()?;
     lanes.call_worker();
     unwritten.pass_on(writer, &text)?;
     if text.is_empty() {
@@ -74,6 +76,31 @@ pub fn hand_out_until<C: Catalog, R: Wait, W: Sink>(
 {
     for _ in rt.forever() {
         if lanes.has_come(until) {
+            break;
+        }
+        let seen = lanes.answers();
+        hand_out_or_rest(rt, alloc, lanes, seen, writer, unwritten)?;
+    }
+    Ok(())
+}
+
+/// Hands out results, round by round, until no request waits.
+pub fn hand_out_waits<C: Catalog, R: Wait, W: Sink>(
+    rt: &R,
+    alloc: Global,
+    lanes: &mut Lanes<C>,
+    writer: &mut W,
+    unwritten: &mut Unwritten,
+) -> Result<(), FrontFault>
+    requires counts { (W.seen writer.old).faults < 2 ^ 64 - 1 }
+    ensures same { links_in lanes.new ≡ links_in lanes.old }
+    ensures names { names_in lanes.new ≡ names_in lanes.old }
+    ensures clear { OnOk result (NothingWaits lanes.new) }
+    ensures handed { HandsOut (AreHanded (names_in lanes.old) (lanes_in lanes.old) (lanes_in lanes.new)) (AreFirst (names_in lanes.old) (lanes_in lanes.old))
+        (W.seen writer.old) (W.seen writer.new) unwritten.old unwritten.new result }
+{
+    for _ in rt.forever() {
+        if lanes.nothing_waits() {
             break;
         }
         let seen = lanes.answers();

@@ -9,8 +9,7 @@ use Rattle.serde_json.specs.Data.{Data, null, number, unsigned, Members, no_memb
 use Rattle.feel_value.specs.Datum.{Datum, entries_of}
 use Rattle.feel_value.specs.Datum as datum
 use Rattle.feel_value.specs.Json.{json_of, json_members}
-use Rattle.dmn_explain.specs.ByName.{json_among}
-use Rattle.json_writer.specs.ByPlace.{each_member}
+use Rattle.dmn_explain.specs.ByName.{each_member, json_among}
 
 ordered : (f : Data → Data) (o : Ordering) (a b c : Members) → each_member f (match_ordering o a b c) ≡ match_ordering o (each_member f a) (each_member f b) (each_member f c)
 ordered f Less a b c = refl

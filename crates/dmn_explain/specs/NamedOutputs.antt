@@ -11,8 +11,7 @@ use Rattle.feel_value.specs.Json.{json_of}
 use Rattle.dmn_table.specs.Hits.{output_of}
 use Rattle.dmn_table.specs.RuleOutputs.{IsScalar}
 use Rattle.dmn_table.specs.Table.{Column}
-use Rattle.dmn_explain.specs.ByName.{json_among}
-use Rattle.json_writer.specs.ByPlace.{each_member}
+use Rattle.dmn_explain.specs.ByName.{each_member, json_among}
 
 -- with values that have no parts in the places of the names, they are the output of these columns
 abbrev pub TellsOutputs : List Column → List (String Global × Value) → Type 0

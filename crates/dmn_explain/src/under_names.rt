@@ -4,8 +4,7 @@ ghost use Rattle.serde_json.specs.Data.{object};
 ghost use Rattle.serde_json.specs.View.{view, members_view};
 ghost use Rattle.serde_json.specs.Written.{compact_text};
 ghost use Rattle.json_writer.specs.Bounded.{longer};
-ghost use Rattle.dmn_explain.specs.ByName.{ArePlaces, json_among};
-ghost use Rattle.json_writer.specs.ByPlace.{each_member};
+ghost use Rattle.dmn_explain.specs.ByName.{ArePlaces, each_member, json_among};
 
 use crate::key::add_comma;
 use feel_value::Feel;

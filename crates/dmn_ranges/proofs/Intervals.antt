@@ -33,7 +33,7 @@ not_lt a b h = grind (arith, ints)
 pub le_lt_le : (a b c d : ℤ) → int_le a b ≡ true → int_lt b c ≡ true → int_le c d ≡ true → int_lt a d ≡ true
 le_lt_le a b c d h k l = grind (arith, ints)
 
-add_le : (a b x y : ℤ) → int_le a x ≡ true → int_le b y ≡ true → int_le (a +ℤ b) (x +ℤ y) ≡ true
+pub add_le : (a b x y : ℤ) → int_le a x ≡ true → int_le b y ≡ true → int_le (a +ℤ b) (x +ℤ y) ≡ true
 add_le a b x y h k = grind (arith, ints)
 
 sub_le : (a b x y : ℤ) → int_le a x ≡ true → int_le y b ≡ true → int_le (a -ℤ b) (x -ℤ y) ≡ true
@@ -167,12 +167,15 @@ least_both_by : (a b c d : ℤ) (t : Bool) → int_le a c ≡ true → int_le b 
 least_both_by a b c d true h k = le_trans (least a b) b d (least_other a b) k
 least_both_by a b c d false h k = le_trans (least a b) a c (least_one a b) h
 
-least_both : (a b c d : ℤ) → int_le a c ≡ true → int_le b d ≡ true → int_le (least a b) (least c d) ≡ true
+pub least_both : (a b c d : ℤ) → int_le a c ≡ true → int_le b d ≡ true → int_le (least a b) (least c d) ≡ true
 least_both a b c d h k = least_both_by a b c d (int_lt d c) h k
 
 greatest_both_by : (a b c d : ℤ) (t : Bool) → int_le a c ≡ true → int_le b d ≡ true → int_le (if t then b else a) (greatest c d) ≡ true
 greatest_both_by a b c d true h k = le_trans b d (greatest c d) k (greatest_other c d)
 greatest_both_by a b c d false h k = le_trans a c (greatest c d) h (greatest_one c d)
+
+pub greatest_both : (a b c d : ℤ) → int_le a c ≡ true → int_le b d ≡ true → int_le (greatest a b) (greatest c d) ≡ true
+greatest_both a b c d h k = greatest_both_by a b c d (int_lt a b) h k
 
 pub product_met : (i j : Interval) (x y : ℤ) → inside i x ≡ true → inside j y ≡ true → Met (product i j) (x *ℤ y)
 product_met i j x y h k =
@@ -182,7 +185,7 @@ product_met i j x y h k =
     (ends_below i.low i.high x y (low_of i x h) (high_of i x h)))
     (le_trans (x *ℤ y) (greatest (i.low *ℤ y) (i.high *ℤ y)) (greatest_product i j)
     (ends_above i.low i.high x y (low_of i x h) (high_of i x h))
-    (greatest_both_by (i.low *ℤ y) (i.high *ℤ y) (greatest_times i.low j) (greatest_times i.high j) (int_lt (i.low *ℤ y) (i.high *ℤ y)) (greatest_of_times i.low j.low j.high y (low_of j y k) (high_of j y k)) (greatest_of_times i.high j.low j.high y (low_of j y k) (high_of j y k))))
+    (greatest_both (i.low *ℤ y) (i.high *ℤ y) (greatest_times i.low j) (greatest_times i.high j) (greatest_of_times i.low j.low j.high y (low_of j y k) (high_of j y k)) (greatest_of_times i.high j.low j.high y (low_of j y k) (high_of j y k))))
 
 -- ---- how far a number is from 0
 

@@ -5,11 +5,14 @@ pub mod Sizes
 pub mod Paths
 pub mod TruthSets
 pub mod Intervals
+pub mod Spans
+pub mod Folding
 pub mod Equalities
 pub mod Comparisons
 pub mod Forms
 pub mod Formed
 pub mod SoundMembers
+pub mod SoundLists
 pub mod Sound
 pub mod Walks
 pub mod SoundEntries

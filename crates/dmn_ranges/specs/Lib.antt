@@ -1,6 +1,7 @@
 pub mod Ranges
 pub mod Texts
 pub mod Numbers
+pub mod Folds
 pub mod Sizes
 pub mod Steps
 pub mod Entries

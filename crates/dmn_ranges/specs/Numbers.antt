@@ -1,8 +1,11 @@
 -- Arithmetic on intervals.
-use Rattle.std.specs.Prelude.{ℤ, pos, negsuc, int_lt, int_le, ◌+ℤ◌, ◌-ℤ◌, ◌*ℤ◌, Bool, false, ◌||◌, Option, Some, None, if◌then◌else◌}
+use Rattle.std.specs.Prelude.{ℕ, ℤ, pos, negsuc, neg_ℤ, int_lt, int_le, ◌*◌, ◌+ℤ◌, ◌-ℤ◌, ◌*ℤ◌, ◌≤ℤ◌, Bool, false, ◌||◌, Option, Some, None, if◌then◌else◌, ⊤}
+use Rattle.feel_text.specs.declared.expr.Function.{Function}
+use Rattle.feel_text.specs.declared.expr.Function.TheVariants as function
 use Rattle.feel_text.specs.Meaning.{least, greatest}
 use Rattle.dmn_ranges.specs.declared.bounded.Bounded.{Bounded}
 use Rattle.dmn_ranges.specs.declared.interval.Interval.{Interval}
+use Rattle.dmn_ranges.specs.declared.span.Span.{Span}
 
 abbrev pub least_number : ℤ
 least_number = negsuc 9223372036854775806
@@ -78,3 +81,35 @@ abbrev pub reach : Option Interval → Option Interval → Bool
 reach None y = false
 reach (Some x) None = false
 reach (Some x) (Some y) = int_le y.low x.high
+
+-- ---- numbers that are not held against the range of numbers yet
+
+abbrev pub widened : Interval → Span
+widened i = record { low = i.low; high = i.high }
+
+abbrev pub widened_if : Option Interval → Option Span
+widened_if None = None
+widened_if (Some i) = Some (widened i)
+
+-- what a function makes of two numbers of a list
+abbrev pub folded_span : Function → Span → Span → Span
+folded_span function.Min s t = record { low = least s.low t.low; high = least s.high t.high }
+folded_span function.Max s t = record { low = greatest s.low t.low; high = greatest s.high t.high }
+folded_span f s t = record { low = s.low +ℤ t.low; high = s.high +ℤ t.high }
+
+abbrev pub folded_if : Function → Option Span → Option Span → Option Span
+folded_if f None t = None
+folded_if f (Some s) None = None
+folded_if f (Some s) (Some t) = Some (folded_span f s t)
+
+abbrev pub held_if : Option Span → Option Bounded
+held_if None = None
+held_if (Some s) = Some (bounded s.low s.high)
+
+-- no further from 0 than the sum of so many numbers of 64 bits
+abbrev pub IsNear : ℕ → ℤ → Type 0
+IsNear n z = (neg_ℤ (pos (n * 9223372036854775808)) ≤ℤ z) × (z ≤ℤ pos (n * 9223372036854775808))
+
+abbrev pub AreNear : ℕ → Option Span → Type 0
+AreNear n None = ⊤
+AreNear n (Some s) = IsNear n s.low × IsNear n s.high

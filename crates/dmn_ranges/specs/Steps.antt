@@ -1,5 +1,5 @@
 -- What each form of an expression can give, from what its parts can give.
-use Rattle.std.specs.Prelude.{ℕ, ℤ, pos, int_le, ◌-ℤ◌, List, [], ◌∷◌, Bool, true, false, not, ◌&&◌, ◌||◌, Option, Some, None, is_some, bytes_eq, if◌then◌else◌}
+use Rattle.std.specs.Prelude.{ℕ, suc, ℤ, pos, int_le, ◌-ℤ◌, List, [], ◌∷◌, Bool, true, false, not, ◌&&◌, ◌||◌, Option, Some, None, is_some, unwrap_or, bytes_eq, if◌then◌else◌}
 use Rattle.feel_value.specs.Limits.{in_range, most_nodes}
 use Rattle.feel_text.specs.declared.expr.Operator.{Operator}
 use Rattle.feel_text.specs.declared.expr.Operator.TheVariants as operator
@@ -7,9 +7,10 @@ use Rattle.feel_text.specs.declared.expr.Function.{Function}
 use Rattle.feel_text.specs.declared.expr.Function.TheVariants as function
 use Rattle.feel_text.specs.Expr as expr
 use Rattle.feel_text.specs.Expr.{Expr, Exprs, none}
-use Rattle.dmn_ranges.specs.Numbers.{least_number, most_number, sum, difference, product, absolute, remainder, has_divisor, hull, are_less, reach}
+use Rattle.dmn_ranges.specs.Numbers.{least_number, most_number, sum, difference, product, absolute, remainder, has_divisor, hull, are_less, reach, widened_if, folded_if, held_if}
 use Rattle.dmn_ranges.specs.Ranges.{Members, Scope, null_alone, no_texts, extent_named, within}
 use Rattle.dmn_ranges.specs.declared.bounded.Bounded.{Bounded}
+use Rattle.dmn_ranges.specs.declared.folded.Folded.{Folded}
 use Rattle.dmn_ranges.specs.declared.interval.Interval.{Interval}
 use Rattle.dmn_ranges.specs.declared.outcomes.Outcomes.{Outcomes}
 use Rattle.dmn_ranges.specs.declared.range.Range.{Range}
@@ -299,7 +300,7 @@ abbrev pub known_or : Option Range → Outcomes → Outcomes
 known_or None o = o
 known_or (Some r) o = given r
 
--- ---- expressions
+-- ---- literals and branches
 
 abbrev pub point : ℤ → Range
 point z = numbers_or_null false (Some (record { low = z; high = z }))
@@ -312,6 +313,38 @@ natural n = if in_range (pos n) then given (point (pos n)) else record { range =
 abbrev pub branches : Truths → Outcomes → Outcomes → Outcomes
 branches t o p = either_outcomes (when t.yes o) (when (t.no || t.unknown) p)
 
+-- ---- functions of written lists
+
+abbrev pub first_member : Outcomes → Folded
+first_member o = record { parts = with_part no_parts o; numbers = widened_if o.range.numbers; others = is_other o.range }
+
+-- the first members with one more
+abbrev pub with_member : Function → Option Folded → Outcomes → Folded
+with_member f None o = first_member o
+with_member f (Some g) o = record { parts = with_part g.parts o; numbers = folded_if f g.numbers (widened_if o.range.numbers); others = g.others || is_other o.range }
+
+-- what a function gives of a list of no members
+abbrev pub of_no_members : Function → Outcomes
+of_no_members function.Count = natural 0
+of_no_members f = given null_alone
+
+-- what a function gives of a list of so many members, which keeps the limits
+abbrev pub of_members : Function → ℕ → Folded → Outcomes
+of_members function.Abs n g = given null_alone
+of_members function.Count n g = natural n
+of_members f n g = numbers_given g.others (held_if g.numbers)
+
+-- what a function gives of a list of so many members
+abbrev pub list_outcomes : Function → ℕ → Option Folded → Outcomes
+list_outcomes f n None = of_no_members f
+list_outcomes f n (Some g) = limited (list_of g.parts).limit (of_members f n g)
+
+abbrev pub member_count : Exprs → ℕ
+member_count none = 0
+member_count (expr.more e es) = suc (member_count es)
+
+-- ---- expressions
+
 abbrev mutual
   pub outcomes : Expr → Scope → Outcomes
   outcomes expr.Null xs = given null_alone
@@ -321,7 +354,7 @@ abbrev mutual
   outcomes (expr.Name name) xs = given (extent_named xs name).0
   outcomes (expr.Group e) xs = outcomes e xs
   outcomes (expr.Members es) xs = list_of (members_parts no_parts es xs)
-  outcomes (expr.Call f e) xs = with_one (outcomes e xs) (called f)
+  outcomes (expr.Call f e) xs = unwrap_or (list_call f e xs) (with_one (outcomes e xs) (called f))
   outcomes (expr.Modulo a b) xs = with_two (outcomes a xs) (outcomes b xs) remainders
   outcomes (expr.Not e) xs = with_one (outcomes e xs) inverted
   outcomes (expr.Negate e) xs = with_one (outcomes e xs) negated
@@ -335,3 +368,14 @@ abbrev mutual
   pub members_parts : Parts → Exprs → Scope → Parts
   members_parts p none xs = p
   members_parts p (expr.more e es) xs = members_parts (with_part p (outcomes e xs)) es xs
+
+  -- what a function gives of a written list
+  pub list_call : Function → Expr → Scope → Option Outcomes
+  list_call f (expr.Group e) xs = list_call f e xs
+  list_call f (expr.Members es) xs = Some (list_outcomes f (member_count es) (members_folded f None es xs))
+  list_call f e xs = None
+
+  -- these members, and those behind them
+  pub members_folded : Function → Option Folded → Exprs → Scope → Option Folded
+  members_folded f g none xs = g
+  members_folded f g (expr.more e es) xs = members_folded f (Some (with_member f g (outcomes e xs))) es xs

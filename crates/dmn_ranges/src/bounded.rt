@@ -35,8 +35,8 @@ fn is_past(z: i128) -> bool
     z < LEAST || MOST < z
 }
 
-// The numbers between two.
-fn held_between(low: i128, high: i128) -> Bounded
+/// The numbers between two.
+pub(crate) fn held_between(low: i128, high: i128) -> Bounded
     ensures { result ≡ bounded_of low high }
 {
     Bounded {
@@ -66,13 +66,13 @@ fn multiplied(x: i64, y: i64) -> i128
     i128::from(x) * i128::from(y)
 }
 
-fn lower(x: i128, y: i128) -> i128
+pub(crate) fn lower(x: i128, y: i128) -> i128
     ensures { result ≡ least x y }
 {
     if y < x { y } else { x }
 }
 
-fn higher(x: i128, y: i128) -> i128
+pub(crate) fn higher(x: i128, y: i128) -> i128
     ensures { result ≡ greatest x y }
 {
     if x < y { y } else { x }

@@ -1,24 +1,26 @@
 //! What an expression can give.
-ghost use Rattle.std.specs.Prelude.{◌≡◌, true, [], IfOk};
+ghost use Rattle.std.specs.Prelude.{◌≡◌, true, [], IfOk, None};
 ghost use Rattle.feel_text.specs.Constants.{expr_of_constant};
 ghost use Rattle.feel_text.specs.Meaning.{Bindings, den};
 ghost use Rattle.feel_text.specs.View.{view, views};
 ghost use Rattle.dmn_ranges.specs.Ranges.{Fits, covers, scope};
-ghost use Rattle.dmn_ranges.specs.Steps.{natural as natural_of, outcomes as outcomes_of, point as point_of, branches as branches_of, members_parts, no_parts};
+ghost use Rattle.dmn_ranges.specs.Steps.{natural as natural_of, outcomes as outcomes_of, point as point_of, branches as branches_of, list_call as list_call_of, list_outcomes as list_outcomes_of, members_folded as members_folded_of, members_parts, no_parts, of_members as of_members_of, of_no_members as of_no_members_of};
 
 use crate::calls::{called, paths};
 use crate::comparison::{between, inverted, operated};
+use crate::folded::{Folded, with_member};
 use crate::interval::Interval;
 use crate::members::{known_member, known_or};
 use crate::names::Names;
 use crate::numbers::{negated, remainders};
-use crate::outcomes::{Outcomes, either_of, when};
+use crate::outcomes::{Outcomes, either_of, numbers_given, when};
 use crate::parts::Parts;
 use crate::range::{NamedRange, Range, either};
 use crate::size::Size;
+use crate::span::held_if;
 use crate::texts::Texts;
 use crate::truths::{Truths, truths_in};
-use feel_text::{Constant, Expr, Tree};
+use feel_text::{Constant, Expr, Function, Tree};
 use feel_value::Value;
 use std::alloc::{AllocError, Global};
 
@@ -80,6 +82,44 @@ fn natural(n: u64) -> Outcomes
     }
 }
 
+// What a function gives of a list of no members.
+fn of_no_members(function: Function) -> Outcomes
+    ensures { result ≡ of_no_members_of function }
+{
+    match function {
+        Function::Count => natural(0),
+        Function::Abs | Function::Sum | Function::Min | Function::Max => {
+            Outcomes::given(Range::null())
+        }
+    }
+}
+
+// What a function gives of a list of so many members, which keeps the limits.
+fn of_members(function: Function, count: u64, folded: Folded) -> Outcomes
+    ensures { result ≡ of_members_of function count folded }
+{
+    match function {
+        Function::Abs => Outcomes::given(Range::null()),
+        Function::Count => natural(count),
+        Function::Sum | Function::Min | Function::Max => {
+            numbers_given(folded.others, held_if(folded.numbers))
+        }
+    }
+}
+
+// What a function gives of a list of so many members.
+fn list_outcomes(function: Function, count: u64, folded: Option<Folded>) -> Outcomes
+    ensures { result ≡ list_outcomes_of function count folded }
+{
+    match folded {
+        Some(folded) => {
+            let list = folded.parts.list();
+            of_members(function, count, folded).limited(list.limit)
+        }
+        None => of_no_members(function),
+    }
+}
+
 // The branches of an `if` that can be taken.
 fn branches(test: Truths, a: Outcomes, b: Outcomes) -> Outcomes
     ensures { result ≡ branches_of test a b }
@@ -106,6 +146,33 @@ fn members(exprs: &[Tree], names: &Names) -> Parts
     parts
 }
 
+// What is known of the members of a list.
+#[cycle(outcomes)]
+fn members_folded(function: Function, exprs: &[Tree], names: &Names) -> Option<Folded>
+    ensures { result ≡ members_folded_of function None (views exprs.now) names.now }
+{
+    let mut folded = None;
+    for expr in exprs {
+        folded = Some(with_member(function, folded, outcomes(expr, names)));
+    }
+    folded
+}
+
+// What a function gives of a written list; None where its argument is none.
+#[cycle(outcomes)]
+fn list_call(function: Function, argument: &Tree, names: &Names) -> Option<Outcomes>
+    ensures { result ≡ list_call_of function (view argument.now) names.now }
+{
+    match argument {
+        Tree::Group(inner) => list_call(function, inner, names),
+        Tree::List(exprs) => {
+            let folded = members_folded(function, exprs, names);
+            Some(list_outcomes(function, exprs.len() as u64, folded))
+        }
+        _ => None,
+    }
+}
+
 #[cycle(outcomes)]
 pub(crate) fn outcomes(expr: &Tree, names: &Names) -> Outcomes
     ensures { result ≡ outcomes_of (view expr.now) names.now }
@@ -117,6 +184,9 @@ pub(crate) fn outcomes(expr: &Tree, names: &Names) -> Outcomes
         Tree::Group(inner) => outcomes(inner, names),
         Tree::List(exprs) => members(exprs, names).list(),
         Tree::Call(function, argument) => {
+            if let Some(told) = list_call(*function, argument, names) {
+                return told;
+            }
             let argument = outcomes(argument, names);
             called(*function, argument.range).limited(argument.limit)
         }

@@ -16,6 +16,7 @@ mod domain;
 mod domain_tests;
 mod entries;
 mod expression;
+mod folded;
 mod interval;
 mod members;
 #[cfg(test)]
@@ -28,6 +29,7 @@ mod range;
 mod rule;
 mod service;
 mod size;
+mod span;
 mod table;
 #[cfg(test)]
 mod table_tests;

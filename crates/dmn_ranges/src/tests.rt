@@ -185,14 +185,11 @@ const LISTS: &[(&str, &str)] = &[
     ("items < items", "null "),
     ("items + 1", "null "),
     ("-items", "null "),
-    ("count([[1, 2], []])", "0..4 "),
+    ("count([[1, 2], []])", "2..2 "),
     ("count([])", "0..0 "),
     ("count(any)", "null 0..9999 "),
     ("abs(items)", "null "),
-    (
-        "sum([[1]])",
-        "null -9223372036854775807..9223372036854775807 limit ",
-    ),
+    ("sum([[1]])", "null "),
     (
         "[[1], [2]].a",
         "null true false -9223372036854775807..9223372036854775807 text list context ",
@@ -319,9 +316,63 @@ const CALLS: &[(&str, &str)] = &[
     ),
     ("min(small)", "null "),
     (
-        "max([1, 2])",
+        "max(items)",
         "null -9223372036854775807..9223372036854775807 ",
     ),
+    (
+        "max(if yesno then [1] else [2])",
+        "null -9223372036854775807..9223372036854775807 ",
+    ),
+];
+
+/// Functions of written lists, whose members are followed.
+const FOLDS: &[(&str, &str)] = &[
+    ("max([1, 2])", "2..2 "),
+    ("min([1, 2])", "1..1 "),
+    ("max([0, wide])", "0..10 "),
+    ("min([0, wide])", "-3..0 "),
+    ("min([wide, small])", "-3..10 "),
+    ("max([wide, small])", "1..10 "),
+    ("max([wide])", "-3..10 "),
+    ("max(([1, 2]))", "2..2 "),
+    ("max((([wide])))", "-3..10 "),
+    ("max([0, min([wide, 5])])", "0..5 "),
+    ("max([0, maybe])", "null 0..5 "),
+    ("max([maybe, 9])", "null 9..9 "),
+    ("max([0, missing])", "null "),
+    ("max([missing, 0])", "null "),
+    ("max([word, 1])", "null "),
+    ("max([[1]])", "null "),
+    ("max([])", "null "),
+    ("min([])", "null "),
+    ("sum([])", "null "),
+    ("abs([])", "null "),
+    ("abs([1])", "null "),
+    ("max([none, 1])", ""),
+    ("sum([none])", ""),
+    ("max([any, 1])", "null 1..9223372036854775807 limit "),
+    ("max([full + 1, 0])", "0..9223372036854775807 limit "),
+    ("sum([small, wide, 5])", "3..25 "),
+    ("sum([small, -small])", "-9..9 "),
+    ("sum([maybe, 1])", "null 1..6 "),
+    ("sum([7])", "7..7 "),
+    (
+        "sum([9223372036854775807, 1])",
+        "9223372036854775807..9223372036854775807 limit ",
+    ),
+    // A sum is held against the range at its end alone.
+    (
+        "sum([9223372036854775807, 1, -1])",
+        "9223372036854775807..9223372036854775807 ",
+    ),
+    (
+        "sum([-9223372036854775807, -9223372036854775807, full])",
+        "-9223372036854775807..-9223372036854775807 limit ",
+    ),
+    ("count([word, missing, [1, 2]])", "3..3 "),
+    ("count([none])", "1..1 "),
+    ("count([any])", "1..1 limit "),
+    ("count([full + 1])", "1..1 limit "),
 ];
 
 const COMPARISONS: &[(&str, &str)] = &[
@@ -439,6 +490,11 @@ fn many_texts(rt: HostRuntime) -> Result<(), Fail> {
 #[test]
 fn calls(rt: HostRuntime) -> Result<(), Fail> {
     hold(&rt, rt.alloc(), CALLS)
+}
+
+#[test]
+fn functions_of_written_lists(rt: HostRuntime) -> Result<(), Fail> {
+    hold(&rt, rt.alloc(), FOLDS)
 }
 
 #[test]

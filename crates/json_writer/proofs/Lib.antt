@@ -1,4 +1,4 @@
-pub mod Floats
 pub mod Quoting
 pub mod Longer
-pub mod ByPlace
+pub mod InOrder
+pub mod Distinct

@@ -1,2 +1,2 @@
 pub mod Bounded
-pub mod ByPlace
+pub mod InOrder

@@ -4,7 +4,7 @@ ghost use Rattle.std.specs.Option.{is_none};
 ghost use Rattle.json.specs.Print.{quoted};
 ghost use Rattle.json_writer.specs.Bounded.{longer, most_bytes};
 
-use crate::text::{escaped, needs_escape};
+use crate::text::{add_escaped, needs_escape};
 use itoa::Buffer;
 use std::alloc::{AllocError, Global};
 use std::marker::Model;
@@ -64,7 +64,9 @@ impl BoundedText {
         ensures { OnOk result (self.new ≡ longer self.old (quoted words.now)) }
     {
         if needs_escape(words) {
-            return self.add(escaped(alloc, words)?.as_bytes());
+            let mut piece = Vec::new(alloc);
+            add_escaped(alloc, words, &mut piece)?;
+            return self.add(&piece);
         }
         self.push(b'"')?;
         self.add(words.as_bytes())?;

@@ -2,6 +2,7 @@
 #![tactic(auto)]
 
 mod bounded;
+mod members;
 mod parts;
 mod text;
 mod value;

@@ -1,12 +1,13 @@
 //! Texts in quotes, and numbers.
-ghost use Rattle.std.specs.Prelude.{◌≡◌, ◌++◌, OnOk, IfOk, decimal, string_bytes};
+ghost use Rattle.std.specs.Prelude.{◌≡◌, ◌++◌, OnOk, decimal};
 ghost use Rattle.std.specs.List.{list_any};
 ghost use Rattle.json.specs.Print.{quoted};
 ghost use Rattle.json.specs.Run.{is_stop};
 
 use itoa::Buffer;
-use serde_json::Value;
+use json::Writer;
 use std::alloc::{AllocError, Global};
+use std::mem::replace;
 
 /// Whether a text has a byte that stands otherwise in quotes.
 pub(crate) fn needs_escape(words: &str) -> bool
@@ -18,13 +19,16 @@ pub(crate) fn needs_escape(words: &str) -> bool
         .any(|byte| *byte == b'"' || *byte == b'\\' || *byte < b' ')
 }
 
-/// A text in quotes.
+/// Adds a text in quotes, of which some byte needs an escape. Where there is no memory, the text may have a part of it.
 #[cold]
 #[inline(never)]
-pub(crate) fn escaped(alloc: Global, words: &str) -> Result<String, AllocError>
-    ensures { IfOk result (λ it. string_bytes it ≡ quoted words.now) }
+pub(crate) fn add_escaped(alloc: Global, words: &str, text: &mut Vec<u8>) -> Result<(), AllocError>
+    ensures { OnOk result (text.new.items ≡ text.old.items ++ quoted words.now) }
 {
-    Value::try_from_str(alloc, words)?.to_string(alloc)
+    let mut writer = Writer::new(replace(text, Vec::new(alloc)));
+    let added = writer.string(words);
+    *text = writer.into_inner();
+    added
 }
 
 /// Adds a text in quotes.
@@ -33,7 +37,7 @@ pub fn add_quoted(alloc: Global, words: &str, text: &mut Vec<u8>) -> Result<(), 
     ensures { OnOk result (text.new.items ≡ text.old.items ++ quoted words.now) }
 {
     if needs_escape(words) {
-        return text.extend_from_slice(escaped(alloc, words)?.as_bytes());
+        return add_escaped(alloc, words, text);
     }
     text.push(b'"')?;
     text.extend_from_slice(words.as_bytes())?;

@@ -1,8 +1,7 @@
-use Rattle.std.proofs.Common.{◌≡◌, ◌∙◌, List, ℕ, refl, subst}
+use Rattle.std.proofs.Common.{◌∙◌, List, ℕ, refl, subst}
 use Rattle.std.proofs.lemmas.Result.{err_from_is_err_and}
 use Rattle.desk_serving.specs.LanesView.{lanes_in, names_in}
 use Rattle.desk_serving.specs.Owed.{AreFirst, AreHanded}
-use Rattle.desk_serving.specs.Telling.{Tells}
 use Rattle.desk_serving.proofs.Owing.{first_after, handed_none, handed_then}
 use Rattle.desk_serving.proofs.Outcomes.{out_broken, out_failed, out_said}
 use Rattle.desk_serving.proofs.Saying.{tells_none, tells_then}
@@ -10,13 +9,8 @@ use Rattle.desk_serving.proofs.ending.hand_out_beside.Goals as goal
 
 pub loop-init : goal.loop-init
 loop-init g c =
-    let names = names_in c.args.lanes.now in let old = lanes_in c.args.lanes.now in let wrote = (g.W.Sink.seen c.args.writer.now).contents in let waits = c.args.unwritten.now in
-    record {
-      same = refl;
-      names = refl;
-      counts = refl;
-      tells = subst (λ (before : List ℕ). Tells (AreHanded names old old) wrote wrote before waits) c.requires.nothing_waits (tells_none (AreHanded names old old) wrote waits (handed_none names old));
-    }
+    let names = names_in c.args.lanes.now in let old = lanes_in c.args.lanes.now in
+    record { same = refl; names = refl; clear = c.requires.clear; counts = refl; tells = tells_none (AreHanded names old old) _ _ (handed_none names old) }
 
 pub loop-preserved : goal.loop-preserved
 loop-preserved g c =
@@ -25,6 +19,7 @@ loop-preserved g c =
     record {
       same = c.in_ok-came.ensures.same ∙ c.loop.invariant.same;
       names = c.in_ok-came.ensures.names ∙ c.loop.invariant.names;
+      clear = c.in_ok-came.ensures.clear c.loop.invariant.clear;
       counts = told.counts (λ e. cc) ∙ c.loop.invariant.counts;
       tells = tells_then (AreHanded names old mid) (AreHanded (names_in c.loop.lanes) mid new) (AreHanded names old new) _ _ _ _ _ _
           (λ m k p q. handed_then names old mid new m k p (subst (λ (ns : List (List ℕ)). AreHanded ns mid new k) c.loop.invariant.names q)) c.loop.invariant.tells told.ok;

@@ -13,6 +13,11 @@ use Rattle.desk_serving.proofs.run.serve_marked.Goals as goal
 pub returns-in_default-clause-ran : goal.returns-in_default-clause-ran
 returns-in_default-clause-ran g c = ran_stopped _ _ _ _ _ _ (stops_unread _ _ _ (nothing_served c.args.options.clients)) refl
 
+pub returns-in_err-lanes-clause-ran : goal.returns-in_err-lanes-clause-ran
+returns-in_err-lanes-clause-ran g c =
+    let e = err_from_is_err_and c.from_residual.result c.from_residual.ensures.1 in
+    rw (e.1, e.2) (ran_stopped _ _ _ _ _ _ (stops_unread _ _ _ (nothing_served c.args.options.clients)) refl)
+
 pub beside-ran-requires-send-W : goal.beside-ran-requires-send-W
 beside-ran-requires-send-W g c κs within = param_send _ _ (arg_send _ no _ (Task-send (param 0 g.row.C) _))
 
@@ -23,14 +28,14 @@ pub beside-ran-requires-clause-ready : goal.beside-ran-requires-clause-ready
 beside-ran-requires-clause-ready g c κs within = (
   c.requires.read_counts,
   c.requires.write_counts,
-  after_none (record { rt = c.args.rt; lanes = c.new.result; plan = None; marks = c.args.marks; texts = _ }) (ap (map string_bytes) c.new.ensures.0) refl
-      (rw (c.new.ensures.1) (new_booked _ c.in-Ok.clients.items c.in-Ok.ensures.new.0)),
+  after_none (record { rt = c.args.rt; lanes = c.in_ok-lanes.lanes; plan = None; marks = c.args.marks; texts = _ }) (ap (map string_bytes) c.in_ok-lanes.ensures.names) refl
+      (rw (c.in_ok-lanes.ensures.lanes) (new_booked _ c.in-Ok.clients.items c.in-Ok.ensures.new.0)),
 )
 
 pub finish-requires-clause-ends : goal.finish-requires-clause-ends
 finish-requires-clause-ends g c =
     let b = c.in_ok-ended.ensures in
-    rw (b.done.links, b.ends, c.new.ensures.1) c.in-Ok.ensures.one_call
+    rw (b.done.links, b.ends, c.in_ok-lanes.ensures.links) c.in-Ok.ensures.one_call
 
 pub finish-requires-clause-new : goal.finish-requires-clause-new
 finish-requires-clause-new g c = λ goes place lane le at.
@@ -38,9 +43,12 @@ finish-requires-clause-new g c = λ goes place lane le at.
     let after = some_answered _ _ _ _ _ _ c.in_ok-ended.ended goes (ends_of _ _ _ _ _ _ c.in_ok-ended.ended done.ran.ok done.ran.fault) in
     booked_rest _ _ after.2.readings after.2.stands.booked place lane le at
 
+pub finish-requires-clause-clear : goal.finish-requires-clause-clear
+finish-requires-clause-clear g c = c.in_ok-ended.ensures.done.waits
+
 pub returns-in_err-ended-clause-ran : goal.returns-in_err-ended-clause-ran
 returns-in_err-ended-clause-ran g c =
-    let e = err_from_is_err_and c.from_residual.result c.from_residual.ensures.1 in
+    let e = err_from_is_err_and c.from_residual-in_err-ended.result c.from_residual-in_err-ended.ensures.1 in
     let same = c.in_err-ended.ensures.refused in
     rw (e.1, e.2) (ran_stopped _ _ _ _ _ _ (stops_same _ _ _ _ _
     (ap (λ r. (g.R.Source.seen r).remaining) (c.reader-1.given.1 (sym (ap (λ f. f.reader.ghost_name) same)) ∙ c.take_back.ensures ∙ ap (λ f. f.reader.now) same))
@@ -53,7 +61,7 @@ returns-clause-ran g c =
     let done = c.in_ok-ended.ensures.done in let finished = c.finish.ensures in
     let count : length c.in-Ok.clients.items ≡ c.args.options.clients = omega (arith, c.in-Ok.clients.ok, c.in-Ok.ensures.count.0) in
     rw (c.reader-1.given.1 (sym done.reader) ∙ c.take_back.ensures, c.writer-2-1.given.1 (sym done.writer))
-    (served_ran c.new.result c.beside-ran.new.host.state c.args.options.clients (lanes_begun c.new.result c.in-Ok.clients c.args.options.clients c.new.ensures.1 count) done.links _ _ _ _ _ c.in_ok-ended.ended done.ran
+    (served_ran c.in_ok-lanes.lanes c.beside-ran.new.host.state c.args.options.clients (lanes_begun c.in_ok-lanes.lanes c.in-Ok.clients.items c.args.options.clients c.in_ok-lanes.ensures.lanes count) done.links _ _ _ _ _ c.in_ok-ended.ended done.ran
     (λ ends. ends.items) c.finish.result done.writes finished.ok finished.err finished.counts finished.fault (λ n. ap g.W.Sink.seen (finished.same n)))
 
 pub returns-clause-ends : goal.returns-clause-ends
@@ -62,5 +70,5 @@ returns-clause-ends g c =
     let count : length c.in-Ok.clients.items ≡ c.args.options.clients = omega (arith, c.in-Ok.clients.ok, c.in-Ok.ensures.count.0) in
     IfOk-weaker c.finish.result _ _
     (λ ends h. rw (c.reader-1.given.1 (sym done.reader) ∙ c.take_back.ensures, c.writer-2-1.given.1 (sym done.writer))
-    (ends_whole c.new.result c.beside-ran.new.host.state c.args.options.clients (lanes_begun c.new.result c.in-Ok.clients c.args.options.clients c.new.ensures.1 count) done.links _ _ _ _ (g.W.Sink.seen c.finish.new.writer) c.in_ok-ended.ended done.ran ends.items h.0 h.1))
+    (ends_whole c.in_ok-lanes.lanes c.beside-ran.new.host.state c.args.options.clients (lanes_begun c.in_ok-lanes.lanes c.in-Ok.clients.items c.args.options.clients c.in_ok-lanes.ensures.lanes count) done.links _ _ _ _ (g.W.Sink.seen c.finish.new.writer) c.in_ok-ended.ended done.ran ends.items h.0 h.1))
     c.finish.ensures.ok

@@ -11,8 +11,7 @@ use Rattle.dmn_table.specs.Hits.{output_of}
 use Rattle.dmn_table.specs.Parts.{column_view}
 use Rattle.dmn_table.specs.RuleOutputs.{IsScalar}
 use Rattle.json_writer.specs.Bounded.{longer}
-use Rattle.dmn_explain.specs.ByName.{json_among}
-use Rattle.json_writer.specs.ByPlace.{each_member}
+use Rattle.dmn_explain.specs.ByName.{each_member, json_among}
 use Rattle.dmn_explain.specs.NamedOutputs.{TellsOutputs}
 use Rattle.dmn_explain.proofs.Pieces.{valued_as}
 use Rattle.dmn_explain.proofs.hit.add_output.Goals as goal

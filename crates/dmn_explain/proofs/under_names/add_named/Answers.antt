@@ -2,8 +2,7 @@ use Rattle.std.proofs.Common.{ap, ◌∙◌, List, ℕ, string_bytes}
 use Rattle.json.specs.Print.{quoted}
 use Rattle.serde_json.specs.View.{view, members_view}
 use Rattle.json_writer.specs.Bounded.{longer}
-use Rattle.dmn_explain.specs.ByName.{json_among}
-use Rattle.json_writer.specs.ByPlace.{each_member}
+use Rattle.dmn_explain.specs.ByName.{each_member, json_among}
 use Rattle.json_writer.proofs.Longer.{member_more}
 use Rattle.dmn_explain.proofs.under_names.add_named.Goals as goal
 

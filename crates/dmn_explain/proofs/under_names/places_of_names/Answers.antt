@@ -8,8 +8,7 @@ use Rattle.serde_json.specs.declared.value.Value.TheVariants as value
 use Rattle.serde_json.proofs.Views.{members_view-insert_entry}
 use Rattle.feel_value.specs.Datum.{entries_of}
 use Rattle.feel_value.specs.Json.{json_members}
-use Rattle.dmn_explain.specs.ByName.{json_among}
-use Rattle.json_writer.specs.ByPlace.{each_member}
+use Rattle.dmn_explain.specs.ByName.{each_member, json_among}
 use Rattle.dmn_explain.proofs.ByName.{name_put}
 use Rattle.dmn_explain.proofs.under_names.places_of_names.Goals as goal
 

@@ -3,8 +3,7 @@ use Rattle.std.specs.List.{zip}
 use Rattle.serde_json.specs.View.{members_view}
 use Rattle.feel_value.specs.Datum.{Datum, entries_of}
 use Rattle.feel_value.specs.Json.{json_members}
-use Rattle.dmn_explain.specs.ByName.{json_among}
-use Rattle.json_writer.specs.ByPlace.{each_member}
+use Rattle.dmn_explain.specs.ByName.{each_member, json_among}
 use Rattle.dmn_explain.proofs.under_names.places_of_names.Given as goal
 
 abbrev pub invariant-loop-i : goal.invariant-loop-i

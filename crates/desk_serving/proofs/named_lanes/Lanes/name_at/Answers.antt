@@ -2,8 +2,7 @@ use Rattle.std.proofs.Common.{◌≡◌, ◌<◌, ◌≤◌, ◌++◌, ◌∷◌
 use Rattle.std.specs.Prelude.{nat_le}
 use Rattle.std.proofs.lemmas.List.{map-append, length-map}
 use Rattle.feel_value.specs.Distinct.{is_among}
-use Rattle.desk_serving.specs.LanesView.{lanes_in, names_in}
-use Rattle.desk_serving.specs.Owed.{lane_of}
+use Rattle.desk_serving.specs.LanesView.{lane_held, lanes_in, names_in}
 use Rattle.desk_serving.proofs.Putting.{pushed_names, with_lane-gets, with_lane-had, with_lane-next}
 use Rattle.desk_serving.proofs.named_lanes.Lanes.name_at.Goals as goal
 
@@ -20,7 +19,7 @@ invariant_of-self-2 g c =
     let gets = with_lane-gets all n (names_in self) c.args.place (is_among (names_in self) n) (nat_le all (length (names_in self))) refl refl c.requires beyond in
     let is : n ≡ string_bytes c.in_ok-from_str.field-0 = cc (c.in_ok-from_str.ensures.ok) in
     let new : is_among (names_in self) (string_bytes s) ≡ false = subst (λ (m : List ℕ). is_among (names_in self) m ≡ false) is gets.0 in
-    let room : length self.names.items < length self.clients.items = omega (arith, gets.1, length-map self.names.items string_bytes, length-map self.clients.items (λ x. lane_of x)) in
+    let room : length self.names.items < length self.clients.items = omega (arith, gets.1, length-map self.names.items string_bytes, length-map self.clients.items lane_held) in
     let made = pushed_names string_bytes self.clients.items self.names.items c.push.new.self.items s (is_ok c.push.result) c.push.ensures.items self.distinct new room in
     record { named = made.0; distinct = made.1 }
 

@@ -1,16 +1,17 @@
 use Rattle.std.proofs.Common.{◌<◌, ◌++◌, Err, ap, refl, subst, ◌∙◌}
 use Rattle.std.proofs.lemmas.Result.{err_from_is_err_and, on_ok_weaker}
+use Rattle.desk_lines.proofs.Talking.{not_so}
 use Rattle.desk_serving.specs.LanesView.{lanes_in, names_in}
 use Rattle.desk_serving.specs.Owed.{AreFirst, AreHanded}
 use Rattle.desk_serving.specs.Script.{texts_of}
 use Rattle.desk_serving.proofs.Hearing.{kept_script}
 use Rattle.desk_serving.proofs.Fronting.{after_more, in_part_more}
-use Rattle.desk_serving.proofs.Running.{ends_in_part, ends_of, err_is, fault_of, goes_without, ok_of, ran_from}
+use Rattle.desk_serving.proofs.Running.{ends_in_part, ends_of, err_is, fault_of, goes_not, goes_without, ok_of, ran_from}
 use Rattle.desk_serving.proofs.Saying.{ends_cut_off, ends_more, ends_stop}
 use Rattle.desk_serving.proofs.run.ServeRunHost.run.Goals as goal
 
 pub returns-else-goes_on : goal.returns-else-goes_on
-returns-else-goes_on g c = let a = c.answer_lines-ended.ensures in record { ran = ran_from _ _ _ _ _ _ _ _ c.tie.ensures a.ran; writes = a.writes; links = a.same; reader = refl; writer = refl }
+returns-else-goes_on g c = let a = c.answer_lines-ended.ensures in record { ran = ran_from _ _ _ _ _ _ _ _ c.tie.ensures a.ran; waits = λ goes. absurd (not_so _ _ c.goes_on.ensures c.if-goes_on.false goes); writes = a.writes; links = a.same; reader = refl; writer = refl }
 
 pub returns-in_ok-end_workers : goal.returns-in_ok-end_workers
 returns-in_ok-end_workers g c =
@@ -36,6 +37,7 @@ returns-in_ok-end_workers g c =
         ok_within_limit = ran.ok_within_limit;
         read_within_limit = ran.read_within_limit;
       };
+      waits = λ goes. e.clear;
       writes = λ n. written.counts (λ h. cc) ∙ a.writes n;
       links = e.same ∙ a.same;
       reader = refl;
@@ -73,6 +75,7 @@ returns-in_err-end_workers g c =
         ok_within_limit = tt;
         read_within_limit = λ h. absurd (told.only.0 (err_is fault _ h));
       };
+      waits = λ on. absurd (goes_not (Unit {0}) fault told.only on);
       writes = λ n. told.counts n ∙ a.writes others.0;
       links = same ∙ a.same;
       reader = refl;

@@ -1,11 +1,13 @@
-use Rattle.std.proofs.Common.{◌≡◌, ◌∙◌, List, Some, length, slice_get, slice_set, refl, sym, ap}
+use Rattle.std.proofs.Common.{◌≡◌, ◌∙◌, List, Some, length, slice_get, slice_set, refl, sym, ap, subst}
+use Rattle.std.proofs.lemmas.Result.{on_ok_weaker}
 use Rattle.std.specs.Arc.{arc_value}
 use Rattle.dmn_plan.specs.Request.{request_result}
 use Rattle.desk_wire.specs.Reports.{Reply}
 use Rattle.desk_requests.proofs.Names.{get_inside}
 use Rattle.desk_serving.specs.LanesView.{lanes_in, names_in}
-use Rattle.desk_serving.specs.Owed.{Lane, unhanded, with_put}
-use Rattle.desk_serving.proofs.Hearing.{on_ok_both}
+use Rattle.desk_serving.specs.Owed.{HandsThen, Lane, unhanded, with_put}
+use Rattle.desk_serving.proofs.Owing.{hands_none}
+use Rattle.desk_serving.proofs.Putting.{lanes_within, put_then}
 use Rattle.desk_serving.proofs.Settling.{is_answered, seat_found}
 use Rattle.desk_serving.proofs.state.State.put.Goals as goal
 
@@ -24,8 +26,11 @@ pub returns-clause-answers : goal.returns-clause-answers
 returns-clause-answers g c =
     let old = c.args.self.now in let mid = c.name_at.new.self in let n = c.args.name.now in let place = c.args.seat.place in let q = arc_value c.args.work in
     let same = c.name_at.ensures.lanes in
-    on_ok_both c.put.result (λ puts hands lane at.
+    on_ok_weaker c.put.result (λ puts text lane at.
     let there : slice_get (lanes_in mid) place ≡ Some lane = ap (λ (ls : List Lane). slice_get ls place) same ∙ at in
-    is_answered old _ mid n (slice_set (lanes_in old.lanes) place (with_put lane q)) (Reply n (length lane.put) (request_result q)) _ _ refl same c.in_ok-name_at.ensures.names c.put.ensures.names
-    (puts lane there ∙ ap (λ (ls : List Lane). unhanded (slice_set ls place (with_put lane q))) same)
-    (hands n lane (seat_found old.lanes mid n c.args.seat c.requires.seat c.in_ok-name_at.ensures.names) there)) c.put.ensures.lanes c.put.ensures.put
+    let report = Reply n (length lane.put) (request_result q) in
+    is_answered old _ mid n (slice_set (lanes_in old.lanes) place (with_put lane q)) report text text refl same c.in_ok-name_at.ensures.names c.put.ensures.names
+    (ap unhanded (puts lane there) ∙ ap (λ (ls : List Lane). unhanded (slice_set ls place (with_put lane q))) same)
+    (subst (λ (ls : List Lane). HandsThen (names_in mid) (lanes_in mid) ls report text text) (sym (puts lane there))
+    (put_then (names_in mid) (lanes_in mid) (lanes_in mid) place n lane lane q text text mid.distinct (seat_found old.lanes mid n c.args.seat c.requires.seat c.in_ok-name_at.ensures.names) there there
+    (lanes_within mid.clients.items place lane there) (hands_none (names_in mid) (lanes_in mid) text)))) c.put.ensures.puts

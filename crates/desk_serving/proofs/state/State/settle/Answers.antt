@@ -24,7 +24,7 @@ pub returns-in-Refused-clause-settles : goal.returns-in-Refused-clause-settles
 returns-in-Refused-clause-settles g c = rw c.in-Refused.is c.refuse.ensures.answers
 
 pub returns-in-Asked-clause-settles : goal.returns-in-Asked-clause-settles
-returns-in-Asked-clause-settles g c = rw c.in-Asked.is c.put.ensures.answers
+returns-in-Asked-clause-settles g c = rw c.in-Asked.is (on_ok_weaker c.put.result (λ put lane at. put c.args.text.now.items lane at) c.put.ensures.answers)
 
 pub returns-in-Closed-clause-settles : goal.returns-in-Closed-clause-settles
 returns-in-Closed-clause-settles g c = rw c.in-Closed.is c.close.ensures.answers

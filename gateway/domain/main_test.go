@@ -1,0 +1,9 @@
+package domain
+
+import (
+	"testing"
+
+	"gateway/engine/enginetest"
+)
+
+func TestMain(m *testing.M) { enginetest.Main(m) }
