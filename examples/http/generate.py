@@ -31,7 +31,8 @@ class Types:
 
     def __init__(self, schemas):
         self.classes = {}
-        for name in sorted(schemas):
+        # (a Trial is for explanations alone, which these clients don't ask by themselves)
+        for name in sorted(it for it in schemas if not it.endswith("Trial")):
             self.type(schemas[name], camel(name))
 
     def type(self, schema, name):

@@ -92,7 +92,7 @@ call.`,
 		"Keep the model last put in this `FILE` (default model.json in the journal's folder)")
 	flags.IntVar(&options.service.ClientLimit, "client-limit", 10_000, "Allow this `NUMBER` of unanswered requests per client")
 	flags.IntVar(&options.service.Limit, "limit", 50_000, "Allow this `NUMBER` of unanswered requests in all")
-	flags.BoolVar(&options.service.Lenient, "lenient", false, "Ignore inputs that a .dmn file doesn't have")
+	flags.BoolVar(&options.service.Lenient, "lenient", false, "Ignore inputs that a .dmn file doesn't have, and take a missing or null one as null")
 	flags.StringVar(&options.log, "log", logText, "Write the log in this `FORM`: text, or json, which has a line for each call too")
 	partitionFlags(flags, &options)
 	readingFlags(flags, &options.reading)

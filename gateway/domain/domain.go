@@ -85,6 +85,9 @@ func (t test) equals() []value {
 	return append(append([]value(nil), t.constant.items...), t.constant)
 }
 
+// IsAny reports whether each value surely lies in the domain, as in one that isn't declared.
+func (d *Domain) IsAny() bool { return d == nil || d.isAny }
+
 // Has reports whether a value lies in the domain. It is one that lines.Tree returns; one with a number that the engine doesn't take doesn't.
 func (d *Domain) Has(tree any) bool {
 	v, isTaken := valueOf(tree)

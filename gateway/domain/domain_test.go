@@ -211,8 +211,6 @@ func TestOutside(t *testing.T) {
 		{`x.a not(null)`, `[{"a":1},{"a":null}]`, ""},
 		{`x.a [7, null]`, `[{"a":7},{}]`, ""},
 		{`x.a [7, null]`, `[{"a":8},{}]`, "/ [8,null] 7, null or [7,null]"},
-		{`x.. 5`, `{"":{"":5}}`, ""},
-		{`x.. 5`, `{"":{"":6}}`, "// 6 5"},
 	} {
 		domains := map[string]string{}
 		for _, part := range strings.Split(it.domains, "; ") {
@@ -231,8 +229,9 @@ func TestOutside(t *testing.T) {
 			t.Errorf("%s of %s: %q, and %q is due", it.value, it.domains, got, it.due)
 		}
 	}
-	if places, unread := Places(map[string]string{"x": "q", "x.a": "1", "b": "[1..", "x.b": "2"}); fmt.Sprint(unread) != "[b x]" || len(places) != 1 {
-		t.Errorf("a name, and no end: %v", unread)
+	if places, unread := Places(map[string]string{"x": "q", "x.a": "1", "b": "[1..", "x.b": "2", "x..a": "3", "c.": "4", ".d": "5"}); fmt.Sprint(unread) != "[.d b c. x x..a]" ||
+		len(places) != 1 {
+		t.Errorf("a name, no end, and empty keys: %v", unread)
 	}
 }
 

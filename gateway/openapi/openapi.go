@@ -5,6 +5,7 @@ import (
 	"encoding/json"
 	"fmt"
 	"net/url"
+	"reflect"
 )
 
 // A Service is a decision service and its inputs.
@@ -20,8 +21,9 @@ type Service struct {
 // An Input is a parameter of a service.
 type Input struct {
 	Name string
-	// Schema is the JSON Schema of its type, or nil.
-	Schema json.RawMessage
+	// Schema is the JSON Schema of its values, or nil. Trial is that of explanations, for which null may be given, and what is required
+	// left out; nil if it is the same.
+	Schema, Trial json.RawMessage
 	// Required means that requests without it are refused, NotNull that requests with null are, whatever the schema says.
 	Required, NotNull bool
 	// Needs are its components that are required likewise.
@@ -47,7 +49,7 @@ func Page(sum, version string, guarded bool, services []Service) ([]byte, error)
 	for at, name := range operations(services) {
 		service := services[at]
 		paths["/v1/services/"+url.PathEscape(service.Name)] = object{"post": call(service, name, schemas)}
-		paths["/v1/explain/"+url.PathEscape(service.Name)] = object{"post": explaining(service, name)}
+		paths["/v1/explain/"+url.PathEscape(service.Name)] = object{"post": explaining(service, name, schemas)}
 	}
 	page := object{
 		"openapi": "3.0.3",
@@ -69,9 +71,10 @@ func Page(sum, version string, guarded bool, services []Service) ([]byte, error)
 	return append(text, '\n'), nil
 }
 
-// call describes a service's calls, and adds its named schemas.
-func call(service Service, name string, schemas object) object {
-	properties, example, required := object{}, object{}, []string{}
+// inputs describes a service's inputs, and gives an example.
+func (service Service) inputs() (inputs, example object) {
+	properties, required := object{}, []string{}
+	example = object{}
 	for _, input := range service.Inputs {
 		schema := Schema(input.Schema)
 		if input.NotNull {
@@ -84,14 +87,36 @@ func call(service Service, name string, schemas object) object {
 			required = append(required, input.Name)
 		}
 	}
-	inputs := object{"type": "object", "properties": properties, "description": "An input that is missing is null. Inputs of other services are ignored."}
+	inputs = object{"type": "object", "properties": properties, "description": "An input that is missing is null. Inputs of other services are ignored."}
 	if len(required) > 0 {
 		inputs["required"] = required
 	}
 	if service.Strict {
 		inputs["additionalProperties"] = false
 	}
+	return inputs, example
+}
+
+// trial returns the service as explanations take it.
+func (service Service) trial() Service {
+	made := service
+	made.Inputs = make([]Input, len(service.Inputs))
+	for at, input := range service.Inputs {
+		made.Inputs[at] = Input{Name: input.Name, Schema: input.Schema}
+		if input.Trial != nil {
+			made.Inputs[at].Schema = input.Trial
+		}
+	}
+	return made
+}
+
+// call describes a service's calls, and adds its named schemas.
+func call(service Service, name string, schemas object) object {
+	inputs, example := service.inputs()
 	schemas[name+"Inputs"] = inputs
+	if tried, _ := service.trial().inputs(); !reflect.DeepEqual(tried, inputs) {
+		schemas[name+"Trial"] = tried
+	}
 	schemas[name+"Answer"] = object{"type": "object", "required": []string{"result"}, "properties": object{
 		"result": Schema(service.Result), "decisions": decisions, "explained": explained}}
 	one := object{"$ref": "#/components/schemas/" + name + "Inputs"}

@@ -11,7 +11,7 @@ func TestSchema(t *testing.T) {
 	text := `{"type":["object","null"],"properties":{"age":{"type":["integer","null"],"exclusiveMinimum":0},` +
 		`"kinds":{"type":["array","null"],"items":{"enum":["a",null],"type":["string","null"]}}}}`
 	due := map[string]any{"type": "object", "nullable": true, "properties": map[string]any{
-		"age": map[string]any{"type": "integer", "format": "int64", "nullable": true, "exclusiveMinimum": true, "minimum": 0.0},
+		"age": map[string]any{"type": "integer", "format": "int64", "nullable": true, "exclusiveMinimum": true, "minimum": json.Number("0")},
 		"kinds": map[string]any{"type": "array", "nullable": true,
 			"items": map[string]any{"type": "string", "nullable": true, "enum": []any{"a", nil}}}}}
 	got := Schema(json.RawMessage(text))
@@ -19,7 +19,7 @@ func TestSchema(t *testing.T) {
 		t.Errorf("it is %v, and %v is due", got, due)
 	}
 	example := Example(got)
-	if !reflect.DeepEqual(example, any(object{"age": 1.0, "kinds": []any{"a"}})) {
+	if !reflect.DeepEqual(example, any(map[string]any{"age": json.Number("1"), "kinds": []any{"a"}})) {
 		t.Errorf("the example is %#v", example)
 	}
 }

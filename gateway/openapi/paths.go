@@ -126,8 +126,11 @@ func trying() object {
 }
 
 // explaining describes a request for a service's explanations.
-func explaining(service Service, name string) object {
+func explaining(service Service, name string, schemas object) object {
 	one := object{"$ref": "#/components/schemas/" + name + "Inputs"}
+	if _, is := schemas[name+"Trial"]; is {
+		one = object{"$ref": "#/components/schemas/" + name + "Trial"}
+	}
 	return object{
 		"operationId": name + "_explained",
 		"summary":     "Asks the decision service " + service.Name + " how its answers come about",

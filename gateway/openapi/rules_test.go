@@ -7,6 +7,10 @@ import (
 	"regexp"
 	"strings"
 	"testing"
+
+	"gateway/domain"
+	"gateway/lines"
+	"gateway/types"
 )
 
 // many are services with similar names, or names of other operations.
@@ -16,7 +20,24 @@ var many = []Service{
 		{Name: "express", Schema: json.RawMessage(`{"type":["boolean","null"]}`)}, {Name: "any"}},
 		Result: json.RawMessage(`{"type":["array","null"],"items":{"type":["object","null"],"properties":{"a b":{"type":["integer","null"]}}}}`)},
 	{Name: "Drivers part"}, {Name: "Drivers_part"}, {Name: "Drivers+part"}, {Name: "getModel"}, {Name: "Problem"}, {Name: "Größe"},
-	{Name: "7"}, {Name: "shipping_explained"}, {Name: "a/b"}, {Name: "{x}"},
+	{Name: "7"}, {Name: "shipping_explained"}, {Name: "a/b"}, {Name: "{x}"}, {Name: "restricted", Inputs: restricted()},
+}
+
+// restricted are inputs with domains, whose schemas have each keyword that a restriction adds.
+func restricted() (inputs []Input) {
+	for at, it := range [][2]string{{"{}", "not(null)"}, {"{}", `not("a", null)`}, {"{}", "< 5, (7..9], 11"}, {"{}", "[5..1]"}, {"{}", "null"}, {"{}", `> "b"`},
+		{`{"type":["integer","null"],"minimum":0}`, "< 5, 7, null"}, {`{"type":["integer","string","null"]}`, `1, "a"`}, {"{}", "[1, [2]]"},
+		{`{"anyOf":[{"minimum":0}]}`, "not(5)"}} {
+		places, _ := domain.Places(map[string]string{"x": it[1], "x.a": "-"})
+		of, _ := types.Read(json.RawMessage(it[0]))
+		for _, isLenient := range []bool{false, true} {
+			var schema map[string]any
+			_ = json.Unmarshal([]byte(it[0]), &schema)
+			Restriction{Name: func(word string) string { return word }, Lenient: isLenient}.Add(schema, places["x"], of)
+			inputs = append(inputs, Input{Name: fmt.Sprint("x", at, isLenient), Schema: lines.Compact(nil, schema), Required: !isLenient})
+		}
+	}
+	return inputs
 }
 
 // described returns the document of some services.
@@ -37,7 +58,8 @@ func described(t *testing.T, services []Service) map[string]any {
 var schemaKeys = map[string]string{"type": "string", "format": "string", "nullable": "bool", "enum": "[]interface {}", "minimum": "float64",
 	"maximum": "float64", "exclusiveMinimum": "bool", "exclusiveMaximum": "bool", "multipleOf": "float64", "items": "map[string]interface {}",
 	"properties": "map[string]interface {}", "required": "[]interface {}", "description": "string", "minLength": "float64",
-	"maxLength": "float64", "maxItems": "float64", "oneOf": "[]interface {}", "anyOf": "[]interface {}", "additionalProperties": "bool"}
+	"maxLength": "float64", "maxItems": "float64", "oneOf": "[]interface {}", "anyOf": "[]interface {}", "allOf": "[]interface {}",
+	"not": "map[string]interface {}", "additionalProperties": "bool"}
 
 // A rules collects violations of OpenAPI 3.0's rules.
 type rules struct {
@@ -65,7 +87,7 @@ func (r *rules) schema(at string, value any) {
 		return
 	}
 	for key, part := range schema {
-		if kind := schemaKeys[key]; kind == "" || kind != reflect.TypeOf(part).String() {
+		if kind := schemaKeys[key]; key != "example" && (kind == "" || kind != reflect.TypeOf(part).String()) {
 			r.fault("%s has the key %s: %v", at, key, part)
 		}
 	}
@@ -93,7 +115,10 @@ func (r *rules) parts(at string, schema map[string]any) {
 	if schema["nullable"] == true && schema["type"] == nil && len(schema) > 2 {
 		r.fault("%s: nullable has no type beside", at)
 	}
-	for _, key := range []string{"oneOf", "anyOf"} {
+	if part, is := schema["not"]; is {
+		r.schema(at+"/not", part)
+	}
+	for _, key := range []string{"oneOf", "anyOf", "allOf"} {
 		several, _ := schema[key].([]any)
 		for n, part := range several {
 			r.schema(fmt.Sprintf("%s/%s/%d", at, key, n), part)

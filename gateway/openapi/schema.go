@@ -1,16 +1,22 @@
 package openapi
 
 import (
+	"bytes"
 	"encoding/json"
 	"fmt"
+	"math/big"
 	"strings"
+
+	"gateway/lines"
 )
 
 // Schema returns a JSON Schema in OpenAPI 3.0's form: "nullable" instead of the type null. An input without a type takes any
 // value.
 func Schema(raw json.RawMessage) map[string]any {
 	var schema map[string]any
-	if json.Unmarshal(raw, &schema) != nil || len(schema) == 0 {
+	decoder := json.NewDecoder(bytes.NewReader(raw))
+	decoder.UseNumber()
+	if decoder.Decode(&schema) != nil || len(schema) == 0 {
 		return object{"nullable": true, "description": "Any value"}
 	}
 	translate(schema)
@@ -19,30 +25,21 @@ func Schema(raw json.RawMessage) map[string]any {
 
 func translate(schema map[string]any) {
 	delete(schema, "$schema")
-	if types, is := schema["type"].([]any); is {
-		delete(schema, "type")
-		for _, name := range types {
-			if name == "null" {
-				schema["nullable"] = true
-				continue
-			}
-			schema["type"] = name
-		}
-	}
+	translateKinds(schema)
 	if schema["type"] == "integer" {
 		schema["format"] = "int64"
 	}
 	translateMoment(schema)
 	if _, is := schema["per"]; is {
 		delete(schema, "per")
-		schema["description"] = "A quotient, to 34 significant digits"
+		describe(schema, "A quotient, to 34 significant digits")
 	}
 	if value, is := schema["const"]; is {
 		delete(schema, "const")
 		schema["enum"] = []any{value}
 	}
 	for _, key := range []string{"exclusiveMinimum", "exclusiveMaximum"} {
-		if limit, is := schema[key].(float64); is {
+		if limit, is := schema[key].(json.Number); is {
 			schema[key] = true
 			schema[map[string]string{"exclusiveMinimum": "minimum", "exclusiveMaximum": "maximum"}[key]] = limit
 		}
@@ -50,6 +47,41 @@ func translate(schema map[string]any) {
 	for _, part := range partsOf(schema) {
 		translate(part)
 	}
+}
+
+// translateKinds writes the kinds of values: one with "nullable", or several schemas.
+func translateKinds(schema map[string]any) {
+	types, is := schema["type"].([]any)
+	if !is {
+		return
+	}
+	delete(schema, "type")
+	var several []any
+	for _, name := range types {
+		if name == "null" {
+			schema["nullable"] = true
+		} else {
+			schema["type"], several = name, append(several, map[string]any{"type": name})
+		}
+	}
+	if len(several) < 2 {
+		return
+	}
+	delete(schema, "type")
+	if schema["nullable"] == true {
+		delete(schema, "nullable")
+		several[0].(map[string]any)["nullable"] = true
+	}
+	all, _ := schema["allOf"].([]any)
+	schema["allOf"] = append(all, map[string]any{"anyOf": several})
+}
+
+// describe puts words before those of a schema.
+func describe(schema map[string]any, words string) {
+	if said, is := schema["description"].(string); is {
+		words += ". " + said
+	}
+	schema["description"] = words
 }
 
 // unitNames are descriptions and examples of the units of durations.
@@ -62,6 +94,8 @@ var localTimes = map[any]string{"time": "A time without an offset, as 12:30:00",
 // translateMoment words what OpenAPI has no keywords for: the kind of a duration, and the bounds of dates and durations.
 func translateMoment(schema map[string]any) {
 	var said []string
+	// A time or a duration is written in several ways, so a list of them would refuse some.
+	isSpeltInWays := schema["format"] == "time" || schema["format"] == "date-time" || schema["format"] == "duration"
 	if hasOffset, is := schema["offset"].(bool); is {
 		if !hasOffset {
 			// RFC 3339's formats have an offset.
@@ -80,15 +114,20 @@ func translateMoment(schema map[string]any) {
 		}
 		delete(schema, bound[0])
 	}
+	if listed, is := schema["enum"].([]any); is && isSpeltInWays && len(listed) > 0 {
+		said = append(said, "one of "+lines.Brief(lines.Compact(nil, listed), mostWords))
+		schema["example"] = listed[0]
+		delete(schema, "enum")
+	}
 	delete(schema, "unit")
 	delete(schema, "clock")
-	if decimals, is := schema["decimals"].(float64); is {
+	if decimals, is := schema["decimals"].(json.Number); is {
 		said = append(said, fmt.Sprintf("with up to %v decimals of a second", decimals))
 		delete(schema, "decimals")
 	}
 	if len(said) > 0 {
 		text := strings.Join(said, ", ")
-		schema["description"] = strings.ToUpper(text[:1]) + text[1:]
+		describe(schema, strings.ToUpper(text[:1])+text[1:])
 	}
 }
 
@@ -123,14 +162,17 @@ func Example(schema map[string]any) any {
 	if values, is := schema["enum"].([]any); is && len(values) > 0 {
 		return values[0]
 	}
-	if least, is := schema["minimum"].(float64); is {
+	if least, is := schema["minimum"].(json.Number); is {
 		if schema["exclusiveMinimum"] == true {
-			least++
+			return after(least)
 		}
 		return least
 	}
 	if text := exampleMoment(schema); text != "" {
 		return text
+	}
+	if several, is := schema["anyOf"].([]any); is && len(several) > 0 {
+		return exampleOf(schema, several[0])
 	}
 	switch schema["type"] {
 	case "string":
@@ -141,7 +183,7 @@ func Example(schema map[string]any) any {
 		items, _ := schema["items"].(map[string]any)
 		return []any{Example(items)}
 	case "object":
-		all := object{}
+		all := map[string]any{}
 		parts, _ := schema["properties"].(map[string]any)
 		for name, part := range parts {
 			part, _ := part.(map[string]any)
@@ -149,9 +191,30 @@ func Example(schema map[string]any) any {
 		}
 		return all
 	case "integer", "number":
-		return 1
+		return json.Number("1")
 	}
 	return nil
+}
+
+// after returns a number that is 1 more.
+func after(number json.Number) json.Number {
+	made := rational(number)
+	made.Add(made, big.NewRat(1, 1))
+	_, decimals, _ := strings.Cut(number.String(), ".")
+	return json.Number(made.FloatString(len(decimals)))
+}
+
+// exampleOf returns a value that a schema and one of its alternatives take.
+func exampleOf(schema map[string]any, alternative any) any {
+	one, is := alternative.(map[string]any)
+	if !is {
+		return nil
+	}
+	both := object{"type": schema["type"]}
+	for key, value := range one {
+		both[key] = value
+	}
+	return Example(both)
 }
 
 // withoutNull removes null from a schema's values.
@@ -173,7 +236,7 @@ func withoutNull(schema map[string]any) {
 // require says in a schema which components are required, and not null.
 func require(schema map[string]any, needs []Need) {
 	properties, _ := schema["properties"].(map[string]any)
-	var names []string
+	names, _ := schema["required"].([]any)
 	for _, need := range needs {
 		part, is := properties[need.Name].(map[string]any)
 		if !is {
@@ -181,11 +244,22 @@ func require(schema map[string]any, needs []Need) {
 		}
 		withoutNull(part)
 		require(part, need.Within)
-		names = append(names, need.Name)
+		if !hasName(names, need.Name) {
+			names = append(names, need.Name)
+		}
 	}
 	if len(names) > 0 {
 		schema["required"] = names
 	}
+}
+
+func hasName(names []any, name string) bool {
+	for _, other := range names {
+		if other == name {
+			return true
+		}
+	}
+	return false
 }
 
 // exampleMoment returns an example of a date, time or duration, or "".

@@ -115,7 +115,7 @@ func TestWrittenComponents(t *testing.T) {
 		`["nobody.x"]`:                `{"result":[null,null]}`,
 		`["","."]`:                    `{"result":[null,null]}`,
 	} {
-		r := serve(t, person[:strings.Index(person, `"required"`)]+`"required":`+required+`,"places":{}}`, Options{})
+		r := serve(t, person[:strings.Index(person, `"domains"`)]+`"required":`+required+`,"places":{}}`, Options{})
 		if _, text, _ := send(t, "POST", r.url+"/v1/services/s", `{}`); !strings.Contains(text, due) {
 			t.Errorf("%s: %s, and %s is due", required, text, due)
 		}

@@ -73,48 +73,114 @@ func (m *served) outside(word string, text []byte) *problem {
 		lines.Brief([]byte(found.Domain.Words(of.Decimals)), 240)))
 }
 
-// shownSchema is schema for people: with examples from the domains, where those of the schema lie outside.
-func (m *served) shownSchema(word string) json.RawMessage {
-	text := m.source.Types[word]
-	if text == nil {
-		text = json.RawMessage("{}")
+// schemas returns the JSON Schema of an input with the file's names: of its type and its domains. The second takes null everywhere, and what
+// is missing; nil if it is the same.
+func (m *served) schemas(word string) (schema, lenient json.RawMessage) {
+	schema = m.schema(word)
+	if m.domains[word] == nil {
+		return schema, nil
 	}
-	tree, err := lines.Tree(text)
-	if err != nil || !addExamples(tree, m.domains[word], m.typeOf(word)) {
-		return m.schema(word)
+	lenient = m.restricted(word, schema, true)
+	if m.isLenient {
+		return lenient, nil
 	}
-	m.renameProperties(tree)
-	return lines.Compact(nil, tree)
+	return m.restricted(word, schema, false), lenient
 }
 
-// addExamples adds to a schema and those within it an example where its own lies outside of the domain. It reports whether it added one.
-func addExamples(schema any, place *domain.Place, of *types.Type) (isMore bool) {
-	parts, is := schema.(map[string]any)
-	if !is || place == nil {
-		return false
+// restricted is a schema of an input with its domains.
+func (m *served) restricted(word string, schema json.RawMessage, isLenient bool) json.RawMessage {
+	if schema == nil {
+		schema = json.RawMessage("{}")
 	}
-	if own := place.Domain(); own != nil && !hasExample(own, parts, of) {
-		if example, isFound := own.Example(); isFound {
-			parts["example"], isMore = of.Decimals(example), true
+	tree, err := lines.Tree(schema)
+	made, is := tree.(map[string]any)
+	if err != nil || !is {
+		return schema
+	}
+	openapi.Restriction{Name: m.nameOf, Lenient: isLenient}.Add(made, m.domains[word], m.typeOf(word))
+	return lines.Compact(nil, made)
+}
+
+// A need is what an input has to have by its domains, beyond what is required: the place of the domains, and the components.
+type need struct {
+	place      *domain.Place
+	components *types.Needs
+}
+
+// needByDomains finds the inputs that can't be null by their domains, or lack a component, where what is required doesn't say so.
+func (m *served) needByDomains() {
+	isRequired := map[string]bool{}
+	for _, path := range m.source.Required {
+		for at := range path {
+			if path[at] == '.' {
+				isRequired[path[:at]] = true
+			}
+		}
+		isRequired[path] = true
+	}
+	m.needed = map[string]need{}
+	for word, place := range m.domains {
+		if !place.IsNeeded() {
+			continue
+		}
+		paths := place.Needed()
+		isMore := !m.isStrict || !isRequired[word]
+		for _, path := range paths {
+			isMore = isMore || !isRequired[word+"."+path]
+		}
+		if isMore {
+			m.needed[word] = need{place, types.NeedsOf(paths)}
 		}
 	}
-	properties, _ := parts["properties"].(map[string]any)
-	for word, part := range properties {
-		isMore = addExamples(part, place.Part(word), of.Property(word)) || isMore
-	}
-	return isMore
 }
 
-// hasExample reports whether the example of a schema lies in a domain.
-func hasExample(own *domain.Domain, schema map[string]any, of *types.Type) bool {
-	text, err := plainJSON(openapi.Example(openapi.Schema(lines.Compact(nil, schema))))
-	if err != nil {
-		return false
+// lacked refuses an input that is missing or null, or lacks a component, and whose domain has no null.
+func (m *served) lacked(service *decisionService, whole []byte, members []lines.Member) *problem {
+	if len(service.needed) == 0 {
+		return nil
 	}
-	tree, err := lines.Tree(text)
-	if err != nil {
-		return false
+	last := lastMembers(members)
+	for _, word := range service.needed {
+		of, text := m.needed[word], lastOf(whole, members, last, word)
+		if text == nil {
+			return m.lack(word, of.place.Missing())
+		}
+		if string(text) != "null" && (of.components == nil || of.components.AreMet(text)) {
+			continue
+		}
+		value, err := lines.Tree(text)
+		if err != nil {
+			return problemInside.with(err.Error())
+		}
+		if found := of.place.Lacking(value); found != nil {
+			return m.lack(word, found)
+		}
 	}
-	units, fault := of.Units(tree)
-	return fault == nil && own.Has(units)
+	return nil
+}
+
+// lastOf returns the text of a key's last member; nil if there is none.
+func lastOf(whole []byte, members []lines.Member, last map[string]int, key string) []byte {
+	at, is := last[key]
+	for n := len(members) - 1; last == nil && n >= 0 && !is; n-- {
+		at, is = n, members[n].Key == key
+	}
+	if !is {
+		return nil
+	}
+	return whole[members[at].Value.Start:members[at].Value.End]
+}
+
+// lack is the problem of an input, or a component of it, that is missing or null.
+func (m *served) lack(word string, found *domain.Lack) *problem {
+	of := m.typeOf(word)
+	for _, key := range found.Of {
+		of = of.Property(key)
+	}
+	due := "it has"
+	if len(found.Of) > len(found.Path) {
+		due = fmt.Sprintf("%q has", m.pathName(append([]string{word}, found.Of...)))
+	}
+	return m.lacking(append([]string{word}, found.Path...), found.IsNull,
+		fmt.Sprintf("%s to be %s", due, lines.Brief([]byte(found.Domain.Words(of.Decimals)), 240)))
 }

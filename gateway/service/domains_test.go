@@ -75,7 +75,7 @@ func TestCountedDomains(t *testing.T) {
 		`"types":{"pay":{"type":["number","null"],"multipleOf":0.01},"day":{"type":["string","null"],"format":"date"},` +
 		`"time":{"type":["string","null"],"format":"duration","unit":"second"},` +
 		`"of":{"type":["object","null"],"properties":{"rate":{"type":["number","null"],"multipleOf":0.001},"kind":{"type":["string","null"]}}}},` +
-		`"domains":{"pay":"[1000..1200], >= 500050, null","day":"[737425..737456), null","time":"[60..86400), null","of.rate":"< 1500"},"places":{}}`
+		`"domains":{"pay":"[1000..1200], >= 500050, null","day":"[737425..737456), null","time":"[60..86400), null","of.rate":"< 1500, null"},"places":{}}`
 	r := serve(t, model, Options{})
 	defer r.stop(t)
 	for _, it := range []struct{ body, due string }{
@@ -89,8 +89,9 @@ func TestCountedDomains(t *testing.T) {
 		{`{"day":"2020-01-31"}`, `{"result":[1]}`},
 		{`{"time":"PT59S"}`, `"detail":"\"PT59S\" is not allowed: it has to be at least \"PT1M\" and less than \"P1D\" or null"`},
 		{`{"time":"PT59.5S"}`, `"pointer":"/time"`},
-		{`{"of it":{"rate":1.5,"kind":"x"}}`, `"detail":"1.5 is not allowed: it has to be less than 1.5"`},
+		{`{"of it":{"rate":1.5,"kind":"x"}}`, `"detail":"1.5 is not allowed: it has to be less than 1.5 or null"`},
 		{`{"of it":{"rate":1.5,"kind":"x"}}`, `"pointer":"/of it/rate"`},
+		{`{"of it":{"rate":null}}`, `{"result":[1]}`},
 		{`{"of it":{"rate":1.25,"kind":"x"}}`, `{"result":[1]}`},
 	} {
 		if _, text, _ := send(t, "POST", r.url+"/v1/services/s", it.body); !strings.Contains(text, it.due) {
@@ -109,11 +110,11 @@ func TestExamplesOfDomains(t *testing.T) {
 	r := serve(t, model, Options{})
 	defer r.stop(t)
 	_, text, _ := send(t, "GET", r.url+"/openapi.json", "")
-	const due = `{"summary":"One request","value":{"day":"2020-01-01","kind":"ba","n":1,"of":{"the rate":1.5},"pay":1.51}}`
+	const due = `{"summary":"One request","value":{"day":"2020-01-01","kind":"text","n":0,"of":{"the rate":1.5},"pay":2.5}}`
 	if !strings.Contains(compact(t, text), due) {
 		t.Errorf("%s, and %s is due", text, due)
 	}
-	const one = `{"day":"2020-01-01","kind":"ba","n":1,"of":{"the rate":1.5},"pay":1.51}`
+	const one = `{"day":"2020-01-01","kind":"text","n":0,"of":{"the rate":1.5},"pay":2.5}`
 	if status, text, _ := send(t, "POST", r.url+"/v1/services/s", one); status != 200 {
 		t.Errorf("%d %s", status, text)
 	}
@@ -122,20 +123,28 @@ func TestExamplesOfDomains(t *testing.T) {
 // A model in JSON may have domains without types. They decide too: the sum has them. Those that can't be read are refused.
 func TestWrittenDomains(t *testing.T) {
 	beside := func(domains string) string { return `{"model":` + adding(1) + `,"domains":` + domains + `}` }
-	r := serve(t, beside(`{"a":"[0..120]","a.b":"5","q":"no domain","b":"[1..2]"}`), Options{})
+	r := serve(t, beside(`{"a":"[0..120]","a.b":"5, null","q":"no domain","b":"[1..2]"}`), Options{})
 	for _, it := range []struct{ body, due string }{
-		{`{"a":5}`, `{"result":6}`}, {`{"a":121}`, `"detail":"121 is not allowed: it has to be from 0 to 120"`}, {`{"a":null}`, `{"result":null}`},
-		{`{}`, `{"result":null}`}, {`{"a":"x"}`, `"pointer":"/a"`}, {`{"a":{"b":5}}`, `"pointer":"/a"`}, {`{"a":5,"b":7}`, `{"result":6}`},
-		{`{"a":5,"q":7}`, `{"result":6}`},
+		{`{"a":5}`, `{"result":6}`}, {`{"a":121}`, `"detail":"121 is not allowed: it has to be from 0 to 120"`},
+		{`{"a":null}`, `"detail":"\"a\" is null, and it has to be from 0 to 120"`}, {`{}`, `"detail":"\"a\" is missing, and it has to be from 0 to 120"`},
+		{`{}`, `"pointer":"/a"`}, {`{"a":"x"}`, `"pointer":"/a"`}, {`{"a":{"b":5}}`, `"pointer":"/a"`}, {`{"a":5,"b":7}`, `{"result":6}`},
+		{`{"a":5,"q":7}`, `{"result":6}`}, {`{"a":null,"a":5}`, `{"result":6}`}, {`{"a":5,"a":null}`, `"detail":"\"a\" is null`},
+		{`[{},{"a":5}]`, `[{"type":"/problems/value","title":"A value is not taken","status":422,"detail":"\"a\" is missing`},
 	} {
 		if _, text, _ := send(t, "POST", r.url+"/v1/services/s", it.body); !strings.Contains(text, it.due) {
 			t.Errorf("%s: %s, and %s is due", it.body, text, it.due)
 		}
 	}
+	if status, text, _ := send(t, "POST", r.url+"/v1/explain/s", `{}`); status != 200 {
+		t.Errorf("a trial without an input: %d %s", status, text)
+	}
 	status, text, _ := send(t, "PUT", r.url+"/v1/model", beside(`{"a":"[0..q]"}`))
 	if status != 422 || !strings.Contains(text, `"fault":"domain"`) || !strings.Contains(text, `"pointer":"/domains/a"`) ||
 		!strings.Contains(text, `constants alone are taken`) {
 		t.Errorf("a name in a domain: %d %s", status, text)
+	}
+	if status, text, _ := send(t, "PUT", r.url+"/v1/model", beside(`{"a.":"5"}`)); status != 422 || !strings.Contains(text, `"pointer":"/domains/a."`) {
+		t.Errorf("a path with an empty part: %d %s", status, text)
 	}
 	r.stop(t)
 	sums := map[string]bool{}
@@ -157,7 +166,7 @@ const (
 	drawnValues  = 28
 )
 
-// Drawn values are taken over HTTP if the engine says that they lie in their drawn domains, or if they are null.
+// Drawn values are taken over HTTP if the engine says that they lie in their drawn domains.
 func TestDrawnDomains(t *testing.T) {
 	seed := time.Now().UnixNano()
 	draw := domaintest.New(seed)
@@ -205,9 +214,11 @@ func TestDrawnDomains(t *testing.T) {
 			t.Fatalf("%v: %s", err, text)
 		}
 		for n, answer := range answers {
-			isDue := isIn[at*drawnValues+n] || values[at][n] == "null"
-			isRefused := answer.Status == http.StatusUnprocessableEntity && answer.Pointer == fmt.Sprintf("/x%d", at) &&
-				strings.Contains(answer.Detail, " is not allowed: it has to be ")
+			isDue, why := isIn[at*drawnValues+n], " is not allowed: it has to be "
+			if values[at][n] == "null" {
+				why = " is null, and it has to be "
+			}
+			isRefused := answer.Status == http.StatusUnprocessableEntity && answer.Pointer == fmt.Sprintf("/x%d", at) && strings.Contains(answer.Detail, why)
 			if isRefused == isDue || isIn[at*drawnValues+n] && answer.Result != "in" {
 				t.Errorf("seed %d: %s in %s: %+v, and %v is due", seed, values[at][n], domains[inputs[at]], answer, isDue)
 			}

@@ -284,27 +284,34 @@ func (s *Service) openAPIPath(w http.ResponseWriter, r *http.Request) {
 		return
 	}
 	model := s.model.Load()
-	var services []openapi.Service
-	for _, form := range model.lawful.Services {
-		service := openapi.Service{Name: model.nameOf(form.Name), Strict: model.isStrict, Result: model.resultSchema(form.Name)}
-		known := model.services[form.Name].ofCallers()
-		var needs map[string]*types.Needs
-		if known.isStrict {
-			needs = model.needs
-		}
-		for _, word := range model.services[form.Name].inputs {
-			service.Inputs = append(service.Inputs, openapi.Input{Name: model.nameOf(word), Schema: model.shownSchema(word),
-				Required: model.isStrict && isOneOf(word, known.required), NotNull: known.notNull[word], Needs: model.namedNeeds(needs[word])})
-		}
-		services = append(services, service)
-	}
-	page, err := openapi.Page(model.wholeSum, s.version, s.tokens.Load() != nil, services)
+	page, err := model.openAPI(s.version, s.tokens.Load() != nil)
 	if err != nil {
 		problemInside.with(err.Error()).write(w, w.Header().Get("X-Request-Id"))
 		return
 	}
 	w.Header()["Desk-Model"] = model.sum
 	writeJSON(w, http.StatusOK, page)
+}
+
+// openAPI describes the services in OpenAPI. isGuarded means that callers need tokens.
+func (m *served) openAPI(version string, isGuarded bool) ([]byte, error) {
+	var services []openapi.Service
+	for _, form := range m.lawful.Services {
+		service := openapi.Service{Name: m.nameOf(form.Name), Strict: m.isStrict, Result: m.resultSchema(form.Name)}
+		known := m.services[form.Name].ofCallers()
+		var needs map[string]*types.Needs
+		if m.isStrict && known.isStrict {
+			needs = m.needs
+		}
+		for _, word := range m.services[form.Name].inputs {
+			schema, trial := m.schemas(word)
+			service.Inputs = append(service.Inputs, openapi.Input{Name: m.nameOf(word), Schema: schema, Trial: trial,
+				Required: m.isStrict && isOneOf(word, known.required) || isOneOf(word, known.needed), NotNull: known.notNull[word],
+				Needs: m.namedNeeds(needs[word])})
+		}
+		services = append(services, service)
+	}
+	return openapi.Page(m.wholeSum, version, isGuarded, services)
 }
 
 // namedNeeds returns what an input has to have, in the file's names.

@@ -61,6 +61,9 @@ func (m *served) worded(service *decisionService, text, whole []byte, members []
 	if p := m.components(service, whole, members); p != nil {
 		return room, p
 	}
+	if p := m.lacked(service, whole, members); p != nil {
+		return room, p
+	}
 	most := lines.MaxLine - lineOverhead - len(inputsKey) - len(service.tail)
 	text = lines.OneLine(text, most)
 	if len(text) > most {

@@ -31,7 +31,7 @@ func (m *served) require() {
 
 // components refuses a missing or null component of an input, if the file requires it.
 func (m *served) components(service *decisionService, whole []byte, members []lines.Member) *problem {
-	if !service.isStrict || len(m.needs) == 0 {
+	if !m.isStrict || !service.isStrict || len(m.needs) == 0 {
 		return nil
 	}
 	last := lastMembers(members)
@@ -45,22 +45,29 @@ func (m *served) components(service *decisionService, whole []byte, members []li
 			return problemInside.with(err.Error())
 		}
 		if path, isNull := needs.Lacking(value); path != nil {
-			return m.lacking(append([]string{member.Key}, path...), isNull)
+			return m.lacking(append([]string{member.Key}, path...), isNull, whyRequired)
 		}
 	}
 	return nil
 }
 
-// lacking is the problem of a component that is missing or null.
-func (m *served) lacking(path []string, isNull bool) *problem {
-	pointer, names := "", make([]string, len(path))
-	for at, word := range path {
+// lacking is the problem of a value that is missing or null, and why it can't be.
+func (m *served) lacking(path []string, isNull bool, why string) *problem {
+	pointer, state := "", "missing"
+	for _, word := range path {
 		pointer += "/" + lines.Token(word)
-		names[at] = m.nameOf(word)
 	}
-	state := "missing"
 	if isNull {
 		state = "null"
 	}
-	return problemValue.at(m.pointer(pointer), fmt.Sprintf("%q is %s, and %s", strings.Join(names, "."), state, whyRequired))
+	return problemValue.at(m.pointer(pointer), fmt.Sprintf("%q is %s, and %s", m.pathName(path), state, why))
+}
+
+// pathName returns a path with the file's names.
+func (m *served) pathName(path []string) string {
+	names := make([]string, len(path))
+	for at, word := range path {
+		names[at] = m.nameOf(word)
+	}
+	return strings.Join(names, ".")
 }

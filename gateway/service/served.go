@@ -43,11 +43,15 @@ type served struct {
 	// ones. An input of another service is ignored.
 	isStrict bool
 	isKnown  map[string]bool
+	// isLenient is true if what is missing is null, whatever the domains say.
+	isLenient bool
 	// required has the inputs that callers have to give by what the file says, needs the components of inputs.
 	required []string
 	needs    map[string]*types.Needs
-	// domains has the values that inputs and their components may have, by the words of the inputs.
+	// domains has the values that inputs and their components may have, by the words of the inputs; needed has the inputs that have to be
+	// there by them.
 	domains map[string]*domain.Place
+	needed  map[string]need
 	// origin says where the model came from, and since when it is in force.
 	origin string
 	since  time.Time
@@ -76,6 +80,8 @@ type decisionService struct {
 	isStrict bool
 	// notNull has the required inputs whose types admit null all the same.
 	notNull map[string]bool
+	// needed are the inputs that have to be there by their domains alone.
+	needed []string
 	// outputs are the words of its output decisions.
 	outputs    []string
 	parameters map[string]bool
@@ -102,6 +108,7 @@ func (s *Service) read(ctx context.Context, source *Source, origin string) (*ser
 		source: source, engine: engine.NewModel(source.Text), lawful: lawful, warnings: warnings,
 		services: map[string]*decisionService{}, words: map[string]string{}, types: map[string]*types.Type{}, origin: origin,
 		since: time.Now(), now: time.Now, clocks: map[string]string{}, isStrict: len(source.Types) > 0 && !s.options.Lenient,
+		isLenient: s.options.Lenient,
 	}
 	line := len(it.engine.AppendLine(nil)) - 1
 	if line > lines.MaxLine {
@@ -171,6 +178,7 @@ func (m *served) index() (err error) {
 	if err := m.declare(); err != nil {
 		return err
 	}
+	m.needByDomains()
 	if err := m.countParts(); err != nil {
 		return err
 	}

@@ -124,17 +124,22 @@ func (d *decisionService) describe(m *served, outputs []string, values map[strin
 
 // restrict makes the service as callers see it.
 func (d *decisionService) restrict(m *served) {
-	if !m.isStrict {
+	if m.isLenient {
 		return
 	}
 	own := *d
 	own.required, own.notNull = append([]string(nil), d.required...), map[string]bool{}
 	for _, word := range m.required {
-		if d.parameters[word] && !isOneOf(word, d.required) {
+		if m.isStrict && d.parameters[word] && !isOneOf(word, d.required) {
 			own.required, own.notNull[word] = append(own.required, word), true
 		}
 	}
-	if len(own.notNull) > 0 || len(m.needs) > 0 {
+	for _, word := range d.inputs {
+		if _, is := m.needed[word]; is {
+			own.needed = append(own.needed, word)
+		}
+	}
+	if len(own.notNull) > 0 || m.isStrict && len(m.needs) > 0 || len(own.needed) > 0 {
 		own.isStrict, d.strict = true, &own
 	}
 }

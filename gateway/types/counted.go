@@ -193,6 +193,9 @@ func (t *Type) IsMoment() bool { return t != nil && t.moment != nil }
 // Property returns the type of the value under a key.
 func (t *Type) Property(key string) *Type { return t.property(key) }
 
+// Has reports whether the type says what the value under a key is.
+func (t *Type) Has(key string) bool { return t.properties[key] != nil }
+
 // Item returns the type of a list's items.
 func (t *Type) Item() *Type { return t.itemType() }
 

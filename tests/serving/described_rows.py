@@ -35,6 +35,44 @@ def described(programs: list[str], folder: Path) -> None:
         assert service.end() == 0
 
 
+def required_by_domains(programs: list[str], folder: Path) -> None:
+    """An input or a component whose domain has no null is required, of a model in JSON too, unless --lenient, and the description says
+    so in the terms of OpenAPI."""
+    model = {"model": json.loads((TOP / "examples" / "parcel.json").read_text()), "domains": {"weight": "[1..30]", "express": "true, false, null"}}
+    path = "/v1/services/shipping"
+    for lenient in (False, True):
+        service = Service(programs, folder, model, "--processes", 1, *["--lenient"] * lenient)
+        for body, said in (({"express": True}, '"weight" is missing, and it has to be from 1 to 30'),
+                           ({"weight": None, "express": True}, '"weight" is null, and it has to be from 1 to 30')):
+            status, answer = service.ask(body, path=path)
+            if lenient:
+                assert (status, answer) == (200, {"result": None}), answer
+            else:
+                assert isinstance(answer, dict) and (status, answer["type"], answer["detail"], answer["pointer"]) == (
+                    422, "/problems/value", said, "/weight"), answer
+        assert service.ask({"weight": 31}, path=path)[0] == 422
+        assert service.ask({"weight": 30}, path=path) == (200, {"result": None})
+        assert service.ask({"weight": 30, "express": False}, path=path) == (200, {"result": 4700})
+        _, page = service.ask("", path="/openapi.json", method="GET")
+        assert isinstance(page, dict)
+        inputs = page["components"]["schemas"]["shippingInputs"]
+        weight = {"type": "integer", "format": "int64", "minimum": 1, "maximum": 30}
+        assert inputs["properties"] == {"weight": {**weight, "nullable": True} if lenient else weight,
+                                        "express": {"type": "boolean", "nullable": True}}, inputs
+        assert inputs.get("required") == (None if lenient else ["weight"]), inputs
+        assert service.end() == 0, service.said()
+    model["domains"] = {"parcel.weight": "[1..30]"}
+    model["model"] = {"inputs": ["parcel"], "decisions": [{"name": "fee", "needs": ["parcel"], "expr": "parcel.weight * 5"}], "services": [
+        {"name": "fee", "outputs": ["fee"], "encapsulated": [], "inputDecisions": [], "inputData": ["parcel"]}]}
+    service = Service(programs, folder, model, "--processes", 1)
+    for body, said, pointer in (({}, '"parcel" is missing, and "parcel.weight" has to be from 1 to 30', "/parcel"),
+                                ({"parcel": {}}, '"parcel.weight" is missing, and it has to be from 1 to 30', "/parcel/weight")):
+        status, answer = service.ask(body, path="/v1/services/fee")
+        assert isinstance(answer, dict) and (status, answer["detail"], answer["pointer"]) == (422, said, pointer), answer
+    assert service.ask({"parcel": {"weight": 3}}, path="/v1/services/fee") == (200, {"result": 15})
+    assert service.end() == 0, service.said()
+
+
 # Of each model whose client is kept: a program in Python that uses it, one in Java, and what both print.
 CLIENTS = {
     "parcel": ("parcel.json", """

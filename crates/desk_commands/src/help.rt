@@ -73,9 +73,9 @@ pub const SERVE: &str = r#"Each line is one JSON object:
   {"resize":"ann","capacity":3}                    the client has room for three requests
 
 A client's answers come in the order of its lines, and are written while the program waits for input.
-A slow request keeps one worker. It delays other clients if all workers are kept, or if a line has to
-wait for it: its client's next refusal, close or resize, or a request past its client's capacity while
-64 such requests or 1048576 bytes of their lines wait.
+A slow request keeps one worker. Lines of its client that have to wait for it, as a refusal, a close, a
+resize, or a request past the capacity, delay no other client until 64 lines or 1048576 bytes of them
+wait. So a slow request delays others if all workers are kept, or that many wait.
 
 Example:
   desk serve --workers 4 < examples/clients.jsonl

@@ -13,7 +13,7 @@ use std::sync::{Arc, Wait};
 use std::thread;
 
 /// The longest sleep in milliseconds. No wake-up is lost, as `Bell` says; this bounds what it would cost.
-pub(crate) const LONGEST_SLEEP: u64 = 100;
+pub(crate) const LONGEST_SLEEP: u64 = 1_000;
 
 /// What the reading thread has of the rings.
 #[derive(Drop)]

@@ -45,13 +45,13 @@ with_requester None name names = names
 with_requester (Some model) name names = with_one name names
 
 -- the client of any other line counts, whether there is a model or not
-abbrev pub with_client : Option (List ℕ) → List (List ℕ) → List (List ℕ)
-with_client None names = names
-with_client (Some name) names = with_one name names
+abbrev pub with_optional : Option (List ℕ) → List (List ℕ) → List (List ℕ)
+with_optional None names = names
+with_optional (Some name) names = with_one name names
 
 abbrev pub with_caller : Option (List ℕ) → Reading Line → List (List ℕ) → List (List ℕ)
 with_caller model (Says (Request name service inputs)) names = with_requester model name names
-with_caller model (Says line) names = with_client (client_of line) names
+with_caller model (Says line) names = with_optional (client_of line) names
 with_caller model reading names = names
 
 -- the names that ask for a lane, in the order in which they first do

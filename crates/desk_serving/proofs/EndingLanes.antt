@@ -26,14 +26,13 @@ use Rattle.lanes.specs.Settling.{AllKept, AllSettle, Settles}
 use Rattle.lanes.proofs.Accounting.{taken_at}
 use Rattle.lanes.proofs.Mails.{option_case, order, some_is, none_is_not, got, changed_other, status_place, get_drop, drop_suc}
 use Rattle.desk_serving.specs.Ending.{IsReady, IsWhole, ends_lanes}
-use Rattle.desk_serving.specs.Owed.{Lane, lane_in, lane_of, with_handed, due, AreBooked, AreFirst, AreFirstOwn, AreHanded, AreOwn}
+use Rattle.desk_serving.specs.Owed.{AreBooked, AreFirst, AreFirstOwn, AreHanded, AreOwn, Lane, Queue, ToRequest, as_queue, due, lane_in, lane_of, queue_in, queue_of, replies, unhanded}
 use Rattle.desk_requests.specs.State.{AreDistinct}
 use Rattle.desk_wire.specs.Reading.{Reading}
 use Rattle.desk_requests.specs.Line.{Line}
 use Rattle.desk_wire.specs.Reports.{Report, Reply}
 use Rattle.desk_serving.specs.Script.{of_client}
-use Rattle.desk_serving.proofs.Owing.{due-next, of_client-append, of_other, of_same, own_first, own_handed, set_at}
-use Rattle.desk_requests.proofs.Names.{name_itself}
+use Rattle.desk_serving.proofs.Owing.{next_handed, of_client-append, own_first, own_handed, own_lost, replies-none, set_at, with_handed}
 
 -- ## What an answer makes of the open tickets
 
@@ -169,15 +168,18 @@ ready_answered old mid new x a ready left mail rest due kept dropped =
     let closes = answer_closes (λ (q : Request). q) request_result (mail_in mid) (mail_in new) x a mid.running right' due kept dropped in
     ready_next old new x ready (left ∙ ap (λ l. l ++ x ∷ []) (sym rest)) (subst (λ m. Closes m (mail_in new) x.ticket) mail closes)
 
+queue_same : (x y : Lane) → x.put ≡ y.put → x.handed ≡ y.handed → x.closed ≡ y.closed → as_queue x ≡ as_queue y
+queue_same x y p h c = λ i. as_queue (record { put = p i; handed = h i; closed = c i })
+
+pub same_lane : (old new : SettledEnd Request Outcome) → put_in new ≡ put_in old → mail_in new ≡ mail_in old → queue_in new ≡ queue_in old
+same_lane old new put m = queue_same (lane_in new) (lane_in old) (ap (map work_of) put) (ap (λ (n : Mail Request Outcome). n.handed) m) (ap (λ (n : Mail Request Outcome). n.closed) m)
+
 -- an answer leaves the lane
 pub answered_lane : (mid new : SettledEnd Request Outcome) (o : Outcome) (x : Ticketed Request) (a : Answered) → put_in new ≡ put_in mid
-    → (a ≡ answered.Kept → mail_in new ≡ with_kept o x.ticket (mail_in mid)) → (a ≢ answered.Kept → mail_in new ≡ mail_in mid) → lane_in new ≡ lane_in mid
-answered_lane mid new o x answered.Kept put kept dropped = let m = kept refl in λ i. record { put = map work_of (put i); handed = (m i).handed; closed = (m i).closed }
-answered_lane mid new o x answered.Strange put kept dropped = let m = dropped (λ e. cc) in λ i. record { put = map work_of (put i); handed = (m i).handed; closed = (m i).closed }
-answered_lane mid new o x answered.Repeated put kept dropped = let m = dropped (λ e. cc) in λ i. record { put = map work_of (put i); handed = (m i).handed; closed = (m i).closed }
-
-pub same_lane : (old new : SettledEnd Request Outcome) → put_in new ≡ put_in old → mail_in new ≡ mail_in old → lane_in new ≡ lane_in old
-same_lane old new put m = λ i. record { put = map work_of (put i); handed = (m i).handed; closed = (m i).closed }
+    → (a ≡ answered.Kept → mail_in new ≡ with_kept o x.ticket (mail_in mid)) → (a ≢ answered.Kept → mail_in new ≡ mail_in mid) → queue_in new ≡ queue_in mid
+answered_lane mid new o x answered.Kept put kept dropped = let m = kept refl in queue_same (lane_in new) (lane_in mid) (ap (map work_of) put) (ap (λ (n : Mail Request Outcome). n.handed) m) (ap (λ (n : Mail Request Outcome). n.closed) m)
+answered_lane mid new o x answered.Strange put kept dropped = same_lane mid new put (dropped (λ e. cc))
+answered_lane mid new o x answered.Repeated put kept dropped = same_lane mid new put (dropped (λ e. cc))
 
 -- the next request, where its outcome is kept
 pub next_put : (end : SettledEnd Request Outcome) (o : Outcome) → next_in (mail_in end) ≡ Some o → (x : Ticketed Request) × (slice_get (put_in end) (mail_in end).handed ≡ Some x)
@@ -199,10 +201,10 @@ map_get f (x ∷ xs) (suc i) y e = map_get f xs i y e
 
 -- ## One lane's rest
 
-pub own_none : (name : List ℕ) (lane : Lane) → AreOwn name lane lane []
+pub own_none : (name : List ℕ) (lane : Queue) → AreOwn name lane lane []
 own_none name lane = record { put = refl; closed = refl; own = refl; others = λ who far. refl }
 
-pub own_then : (name : List ℕ) (a b c : Lane) (m k : List Report) → AreOwn name a b m → AreOwn name b c k → AreOwn name a c (m ++ k)
+pub own_then : (name : List ℕ) (a b c : Queue) (m k : List Report) → AreOwn name a b m → AreOwn name b c k → AreOwn name a c (m ++ k)
 own_then name a b c m k x y = record {
   put = y.put ∙ x.put;
   closed = y.closed ∙ x.closed;
@@ -211,15 +213,7 @@ own_then name a b c m k x y = record {
   others = λ who far. of_client-append who m k ∙ ap (λ t. t ++ of_client who k) (x.others who far) ∙ y.others who far;
 }
 
-pub own_next : (name : List ℕ) (lane : Lane) (q : Request) → slice_get lane.put lane.handed ≡ Some q → AreOwn name lane (with_handed lane) (Reply name lane.handed (request_result q) ∷ [])
-own_next name lane q at = record {
-  put = refl;
-  closed = refl;
-  own = ap (λ t. t ++ due name (with_handed lane)) (of_same (Some name) (Reply name lane.handed (request_result q)) (name_itself name)) ∙ sym (due-next name lane q at);
-  others = λ who far. of_other who (Reply name lane.handed (request_result q)) far;
-}
-
-pub own_begun : (name : List ℕ) (old new : Lane) (m : List Report) → AreOwn name old new m → AreFirstOwn name old m
+pub own_begun : (name : List ℕ) (old new : Queue) (m : List Report) → AreOwn name old new m → AreFirstOwn name old m
 own_begun name old new m x = record { rest = due name new; own = x.own; others = x.others }
 
 drop_none : {A : Type 0} (n : ℕ) (xs : List A) → drop n xs ≡ [] → length xs ≤ n
@@ -236,25 +230,26 @@ all_kept old new (x ∷ answers) kept = all_kept (with_kept (request_result x.wo
 pub own_released : (name : List ℕ) (old new : SettledEnd Request Outcome) (ticket : ℕ) (outcome : Outcome)
     → (next_in (mail_in old) ≡ Some outcome) × (ticket ≡ (mail_in old).handed) × (mail_in new ≡ mail.with_handed (mail_in old))
     → ((x : Ticketed Request) → slice_get (put_in old) ticket ≡ Some x → outcome ≡ request_result x.work) → put_in new ≡ put_in old
-    → AreOwn name (lane_in old) (lane_in new) (Reply name ticket outcome ∷ [])
+    → AreOwn name (queue_in old) (queue_in new) (Reply name ticket outcome ∷ [])
 own_released name old new ticket outcome handed right put =
     let x = next_put old outcome handed.0 in
     let at : slice_get (put_in old) ticket ≡ Some x.0 = ap (slice_get (put_in old)) handed.1 ∙ x.1 in
-    let lane : lane_in new ≡ with_handed (lane_in old) = λ i. record { put = map work_of (put i); handed = (handed.2 i).handed; closed = (handed.2 i).closed } in
-    let next = own_next name (lane_in old) x.0.work (map_at work_of (put_in old) (mail_in old).handed x.0 x.1) in
+    let lane : queue_in new ≡ as_queue (with_handed (lane_in old)) =
+    queue_same (lane_in new) (with_handed (lane_in old)) (ap (map work_of) put) (ap (λ (n : Mail Request Outcome). n.handed) handed.2) (ap (λ (n : Mail Request Outcome). n.closed) handed.2) in
+    let next = next_handed (lane_in old) x.0.work (map_at work_of (put_in old) (mail_in old).handed x.0 x.1) in
+    let own = own_lost name (ToRequest (mail_in old).handed x.0.work) (queue_in old) (as_queue (with_handed (lane_in old))) next in
     let said : Reply name (mail_in old).handed (request_result x.0.work) ≡ Reply name ticket outcome = λ i. Reply name (sym handed.1 i) (sym (right x.0 at) i) in
-    subst (λ l. AreOwn name (lane_in old) l (Reply name ticket outcome ∷ [])) (sym lane)
-    (subst (λ e. AreOwn name (lane_in old) (with_handed (lane_in old)) (e ∷ [])) said next)
+    subst (λ l. AreOwn name (queue_in old) l (Reply name ticket outcome ∷ [])) (sym lane)
+    (subst (λ e. AreOwn name (queue_in old) (as_queue (with_handed (lane_in old))) (e ∷ [])) said own)
 
 -- all ends, as they come out of their lanes
 
-settled_lane : (client : ClientEnd Request Outcome) (ports : List (LaneEnd Request Outcome)) (end : SettledEnd Request Outcome) → Settles (λ (q : Request). q) request_result client ports end → lane_in end ≡ lane_of client
+settled_lane : (client : ClientEnd Request Outcome) (ports : List (LaneEnd Request Outcome)) (end : SettledEnd Request Outcome) → Settles (λ (q : Request). q) request_result client ports end → queue_in end ≡ queue_of client
 settled_lane client ports end s =
-    let same = all_kept (mail_of client) (mail_in end) s.answers s.kept in
-    λ i. record { put = map work_of (s.put i); handed = same.0 i; closed = same.1 i }
+    let same = all_kept (mail_of client) (mail_in end) s.answers s.kept in queue_same (lane_in end) (lane_of client) (ap (map work_of) s.put) same.0 same.1
 
 pub settled_lanes : (c : ℕ) (ports : List (List (LaneEnd Request Outcome))) (clients : List (ClientEnd Request Outcome)) (ends : List (SettledEnd Request Outcome))
-    → AllSettle (λ (q : Request). q) request_result c ports clients ends → ends_lanes ends ≡ map (λ client. lane_of client) clients
+    → AllSettle (λ (q : Request). q) request_result c ports clients ends → ends_lanes ends ≡ map (λ client. queue_of client) clients
 settled_lanes c ports [] [] s = refl
 settled_lanes c ports [] (end ∷ ends) s = absurd s
 settled_lanes c ports (client ∷ clients) [] s = absurd s
@@ -276,17 +271,19 @@ settled_count c ports (client ∷ clients) [] s = absurd s
 settled_count c ports (client ∷ clients) (end ∷ ends) s = ap suc (settled_count (suc c) ports clients ends s.1)
 
 -- an end whose lane owes nothing is whole
-pub owes_none : (end : SettledEnd Request Outcome) → drop (lane_in end).handed (lane_in end).put ≡ [] → IsWhole end
-owes_none end e = let few = drop_none (lane_in end).handed (lane_in end).put e in omega (arith, few, end.count, length-map (put_in end) work_of)
+pub owes_none : (end : SettledEnd Request Outcome) → (queue_in end).owed ≡ [] → IsWhole end
+owes_none end e =
+    let few = drop_none (lane_in end).handed (lane_in end).put (replies-none (lane_in end).handed (drop (lane_in end).handed (lane_in end).put) e) in
+    omega (arith, few, end.count, length-map (put_in end) work_of)
 
-pub whole_owes : (end : SettledEnd Request Outcome) → IsWhole end → drop (lane_in end).handed (lane_in end).put ≡ []
-whole_owes end w = drop_all (lane_in end).handed (lane_in end).put (omega (arith, w, end.count, length-map (put_in end) work_of))
+pub whole_owes : (end : SettledEnd Request Outcome) → IsWhole end → (queue_in end).owed ≡ []
+whole_owes end w = ap (replies (lane_in end).handed) (drop_all (lane_in end).handed (lane_in end).put (omega (arith, w, end.count, length-map (put_in end) work_of)))
 
 -- the lanes without a name have no request
-pub booked_rest : (names : List (List ℕ)) (lanes : List Lane) (readings : List (Reading Line)) → AreBooked names lanes readings
-    → (place : ℕ) (lane : Lane) → length names ≤ place → slice_get lanes place ≡ Some lane → lane.put ≡ []
+pub booked_rest : (names : List (List ℕ)) (lanes : List Queue) (readings : List (Reading Line)) → AreBooked names (unhanded lanes) readings
+    → (place : ℕ) (lane : Queue) → length names ≤ place → slice_get lanes place ≡ Some lane → lane.put ≡ []
 booked_rest [] [] readings b place lane le at = absurd (none_is_not lane at)
-booked_rest [] (x ∷ lanes) readings b zero lane le at = ap (λ (l : Lane). l.put) (sym (some_is x lane at)) ∙ b.0
+booked_rest [] (x ∷ lanes) readings b zero lane le at = ap (λ (l : Queue). l.put) (sym (some_is x lane at)) ∙ b.0
 booked_rest [] (x ∷ lanes) readings b (suc place) lane le at = booked_rest [] lanes readings b.2 place lane (omega arith) at
 booked_rest (n ∷ names) [] readings b place lane le at = absurd b
 booked_rest (n ∷ names) (x ∷ lanes) readings b zero lane le at = absurd (omega (arith, le))
@@ -334,41 +331,41 @@ drop_nil (suc n) = refl
 
 -- what one end hands out is handed out of all
 pub end_handed : (names : List (List ℕ)) (ends : List (SettledEnd Request Outcome)) (place : ℕ) (name : List ℕ) (end new : SettledEnd Request Outcome) (more : List Report) → AreDistinct names
-    → slice_get names place ≡ Some name → slice_get ends place ≡ Some end → AreOwn name (lane_in end) (lane_in new) more → AreHanded names (ends_lanes ends) (ends_lanes (slice_set ends place new)) more
+    → slice_get names place ≡ Some name → slice_get ends place ≡ Some end → AreOwn name (queue_in end) (queue_in new) more → AreHanded names (ends_lanes ends) (ends_lanes (slice_set ends place new)) more
 end_handed names ends place name end new more distinct at here own =
-    subst (λ ls. AreHanded names (ends_lanes ends) ls more) (sym (map-set (λ (e : SettledEnd Request Outcome). lane_in e) ends place new))
-    (own_handed names (ends_lanes ends) place name (lane_in end) (lane_in new) more distinct at (map_at (λ (e : SettledEnd Request Outcome). lane_in e) ends place end here) own)
+    subst (λ ls. AreHanded names (ends_lanes ends) ls more) (sym (map-set (λ (e : SettledEnd Request Outcome). queue_in e) ends place new))
+    (own_handed names (ends_lanes ends) place name (queue_in end) (queue_in new) more distinct at (map_at (λ (e : SettledEnd Request Outcome). queue_in e) ends place end here) own)
 
 pub end_first : (names : List (List ℕ)) (ends : List (SettledEnd Request Outcome)) (place : ℕ) (name : List ℕ) (end : SettledEnd Request Outcome) (more : List Report) → AreDistinct names
-    → slice_get names place ≡ Some name → slice_get ends place ≡ Some end → AreFirstOwn name (lane_in end) more → AreFirst names (ends_lanes ends) more
+    → slice_get names place ≡ Some name → slice_get ends place ≡ Some end → AreFirstOwn name (queue_in end) more → AreFirst names (ends_lanes ends) more
 end_first names ends place name end more distinct at here own =
-    own_first names (ends_lanes ends) place name (lane_in end) more distinct at (map_at (λ (e : SettledEnd Request Outcome). lane_in e) ends place end here) own
+    own_first names (ends_lanes ends) place name (queue_in end) more distinct at (map_at (λ (e : SettledEnd Request Outcome). queue_in e) ends place end here) own
 
 -- one end more owes nothing
 pub whole_after : (ends : List (SettledEnd Request Outcome)) (place : ℕ) (end new : SettledEnd Request Outcome) → slice_get ends place ≡ Some end
-    → ((k : ℕ) (lane : Lane) → k < place → slice_get (ends_lanes ends) k ≡ Some lane → drop lane.handed lane.put ≡ []) → IsWhole new
-    → (k : ℕ) (lane : Lane) → k < place + 1 → slice_get (ends_lanes (slice_set ends place new)) k ≡ Some lane → drop lane.handed lane.put ≡ []
+    → ((k : ℕ) (lane : Queue) → k < place → slice_get (ends_lanes ends) k ≡ Some lane → lane.owed ≡ []) → IsWhole new
+    → (k : ℕ) (lane : Queue) → k < place + 1 → slice_get (ends_lanes (slice_set ends place new)) k ≡ Some lane → lane.owed ≡ []
 whole_after ends place end new here before whole k lane lt at =
-    let found = map_get (λ (e : SettledEnd Request Outcome). lane_in e) (slice_set ends place new) k lane at in
+    let found = map_get (λ (e : SettledEnd Request Outcome). queue_in e) (slice_set ends place new) k lane at in
     dite (ℕ_discrete k place)
     (λ (same : k ≡ place).
     let it : found.0 ≡ new = some_is found.0 new (sym found.1 ∙ ap (slice_get (slice_set ends place new)) same ∙ set_at ends place end new here) in
-    subst (λ (l : Lane). drop l.handed l.put ≡ []) (ap (λ (e : SettledEnd Request Outcome). lane_in e) (sym it) ∙ found.2) (whole_owes new whole))
-    (λ ne. before k lane (omega (arith, lt, ne)) (map_at (λ (e : SettledEnd Request Outcome). lane_in e) ends k found.0 (sym (set_other ends place k new ne) ∙ found.1) ∙ ap Some found.2))
+    subst (λ (l : Queue). l.owed ≡ []) (ap (λ (e : SettledEnd Request Outcome). queue_in e) (sym it) ∙ found.2) (whole_owes new whole))
+    (λ ne. before k lane (omega (arith, lt, ne)) (map_at (λ (e : SettledEnd Request Outcome). queue_in e) ends k found.0 (sym (set_other ends place k new ne) ∙ found.1) ∙ ap Some found.2))
 
 -- the ends of the lanes with names owe nothing, and the others never did
-pub all_whole : (n : ℕ) (old new : List (SettledEnd Request Outcome)) (lanes : List Lane) → ends_lanes old ≡ lanes
-    → ((k : ℕ) (lane : Lane) → k < n → slice_get (ends_lanes new) k ≡ Some lane → drop lane.handed lane.put ≡ []) → drop n new ≡ drop n old
-    → ((k : ℕ) (lane : Lane) → n ≤ k → slice_get lanes k ≡ Some lane → lane.put ≡ []) → All IsWhole new
+pub all_whole : (n : ℕ) (old new : List (SettledEnd Request Outcome)) (lanes : List Queue) → ends_lanes old ≡ lanes
+    → ((k : ℕ) (lane : Queue) → k < n → slice_get (ends_lanes new) k ≡ Some lane → lane.owed ≡ []) → drop n new ≡ drop n old
+    → ((k : ℕ) (lane : Queue) → n ≤ k → slice_get lanes k ≡ Some lane → lane.put ≡ []) → All IsWhole new
 all_whole n old new lanes same named rest others k d lt =
     let end : SettledEnd Request Outcome = get_or new k d in
     let at : slice_get new k ≡ Some end = lent new k d lt in
     owes_none end (⊎_elim
-    (λ (below : k < n). named k (lane_in end) below (map_at (λ (e : SettledEnd Request Outcome). lane_in e) new k end at))
+    (λ (below : k < n). named k (queue_in end) below (map_at (λ (e : SettledEnd Request Outcome). queue_in e) new k end at))
     (λ (above : n ≤ k).
     let there : k ≡ n + (k - n) = omega (arith, above) in
     let was : slice_get old k ≡ Some end = sym (get_drop n (k - n) k old there) ∙ ap (λ l. slice_get l (k - n)) (sym rest) ∙ get_drop n (k - n) k new there ∙ at in
-    let none : (lane_in end).put ≡ [] =
-    others k (lane_in end) above (ap (λ l. slice_get l k) (sym same) ∙ map_at (λ (e : SettledEnd Request Outcome). lane_in e) old k end was) in
-    ap (drop (lane_in end).handed) none ∙ drop_nil (lane_in end).handed)
+    let none : (queue_in end).put ≡ [] =
+    others k (queue_in end) above (ap (λ l. slice_get l k) (sym same) ∙ map_at (λ (e : SettledEnd Request Outcome). queue_in e) old k end was) in
+    ap (replies (lane_in end).handed) (ap (drop (lane_in end).handed) none ∙ drop_nil (lane_in end).handed))
     (order k n))

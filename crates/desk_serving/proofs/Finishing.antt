@@ -7,7 +7,7 @@ use Rattle.feel_value.specs.declared.feel.Outcome.{Outcome}
 use Rattle.desk_serving.specs.Ending.{ServedBy, ends_lanes}
 use Rattle.desk_serving.specs.Running.{FinishesBy, GoesOn, IsHandedOut}
 use Rattle.desk_serving.specs.LanesView.{lane_held, lanes_in, links_held, links_in, names_in}
-use Rattle.desk_serving.specs.Owed.{AreFirst, AreHanded, Lane, lane_of}
+use Rattle.desk_serving.specs.Owed.{AreFirst, AreHanded, Queue, queue_of}
 use Rattle.desk_serving.specs.Script.{Served, ServedInPart, texts_of}
 use Rattle.desk_serving.specs.StateView.{After}
 use Rattle.desk_serving.specs.Telling.{TellsAll, TellsInPart}
@@ -40,11 +40,11 @@ lanes_kept old new same =
     length-map new.clients.items lane_held ∙ sym (length-map new.clients.items links_held) ∙ ap length same
     ∙ length-map old.clients.items links_held ∙ sym (length-map old.clients.items lane_held)
 
-pub lanes_begun : {C : Type 0} {G : Ghosts C} → (lanes : Lanes C G) (ends : List (ClientEnd Request Outcome)) (clients : ℕ) → lanes_in lanes ≡ map lane_of ends → length ends ≡ clients → length (lanes_in lanes) ≡ clients
-lanes_begun lanes ends clients is count = ap length is ∙ length-map ends lane_of ∙ count
+pub lanes_begun : {C : Type 0} {G : Ghosts C} → (lanes : Lanes C G) (ends : List (ClientEnd Request Outcome)) (clients : ℕ) → lanes_in lanes ≡ map queue_of ends → length ends ≡ clients → length (lanes_in lanes) ≡ clients
+lanes_begun lanes ends clients is count = ap length is ∙ length-map ends queue_of ∙ count
 
 -- the writer failed at the rest, or memory was refused for it
-pub finishes_by : (names : List (List ℕ)) (lanes : List Lane) (wrote wrote' : Option (List ℕ)) (ended : Result (Unit {0}) FrontFault) (fault : FrontFault) → GoesOn ended → (fault ≢ Read) × (fault ≢ Long)
+pub finishes_by : (names : List (List ℕ)) (lanes : List Queue) (wrote wrote' : Option (List ℕ)) (ended : Result (Unit {0}) FrontFault) (fault : FrontFault) → GoesOn ended → (fault ≢ Read) × (fault ≢ Long)
     → (fault ≡ Write → TellsInPart (AreFirst names lanes) wrote wrote') → (fault ≡ Memory → TellsAll (AreFirst names lanes) wrote wrote') → FinishesBy names lanes wrote wrote' ended fault
 finishes_by names lanes wrote wrote' ended Read goes only part all = absurd (only.0 refl)
 finishes_by names lanes wrote wrote' ended Long goes only part all = absurd (only.1 refl)
@@ -52,7 +52,7 @@ finishes_by names lanes wrote wrote' ended Write goes only part all = inl (goes,
 finishes_by names lanes wrote wrote' ended Memory goes only part all = inr (inl (goes, refl, all refl))
 
 -- where neither the writer failed nor memory was refused at the end, it was so before
-ended_before : (names : List (List ℕ)) (lanes : List Lane) (wrote wrote' : Option (List ℕ)) (ended : Result (Unit {0}) FrontFault) (fault : FrontFault) → FinishesBy names lanes wrote wrote' ended fault
+ended_before : (names : List (List ℕ)) (lanes : List Queue) (wrote wrote' : Option (List ℕ)) (ended : Result (Unit {0}) FrontFault) (fault : FrontFault) → FinishesBy names lanes wrote wrote' ended fault
     → fault ≢ Write → fault ≢ Memory → ended ≡ Err fault
 ended_before names lanes wrote wrote' ended fault (inl h) write memory = absurd (write h.1)
 ended_before names lanes wrote wrote' ended fault (inr (inl h)) write memory = absurd (memory h.1)

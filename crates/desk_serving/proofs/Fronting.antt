@@ -1,5 +1,5 @@
 -- What the front of `serve` comes to.
-use Rattle.std.proofs.Common.{◌≡◌, ℕ, ◌<◌, zero, suc, List, [], ◌∷◌, ◌++◌, length, slice_get, slice_index_or, refl, ap, sym, ◌∙◌, append_assoc, append-nil, arith, Option, Some, None, All, subst, Bool, true, false, if◌then◌else◌}
+use Rattle.std.proofs.Common.{◌≡◌, ℕ, ◌<◌, zero, suc, List, [], ◌∷◌, ◌++◌, length, map, slice_get, slice_index_or, refl, ap, sym, ◌∙◌, append_assoc, append-nil, arith, Option, Some, None, All, subst, Bool, true, false, if◌then◌else◌}
 use Rattle.std.specs.Prelude.{bytes_eq}
 use Rattle.std.proofs.lemmas.List.{length-map, map-append}
 use Rattle.dmn_plan.specs.Request.{Request}
@@ -7,7 +7,7 @@ use Rattle.feel_value.specs.declared.feel.Outcome.{Outcome}
 use Rattle.desk_requests.specs.Line.{Line}
 use Rattle.desk_serving.specs.Ending.{IsWhole, ServedBy, ends_lanes}
 use Rattle.desk_serving.specs.LanesView.{lanes_in, names_in}
-use Rattle.desk_serving.specs.Owed.{Lane, lane_in, due_to, due_to_name, AreHanded, AreFirst, AreBooked, Stands}
+use Rattle.desk_serving.specs.Owed.{AreBooked, AreFirst, AreHanded, Queue, Stands, due_to, due_to_name, lane_in, queue_in, unhanded}
 use Rattle.desk_wire.specs.Reading.{Reading}
 use Rattle.desk_wire.specs.Reports.{Report, report_text}
 use Rattle.desk_serving.specs.Script.{of_client, texts_of, Served, ServedInPart}
@@ -22,7 +22,7 @@ use Rattle.lanes.specs.Ends.{SettledEnd}
 use Rattle.model_marks.specs.declared.mark.Catalog.{Ghosts}
 
 -- of each client a beginning is said, and some more of what is owed
-in_part_of : (readings : List (Reading Line)) (names : List (List ℕ)) (model : Option (List ℕ)) (lanes : List Lane) (said more : List Report) → Stands readings readings names model lanes said
+in_part_of : (readings : List (Reading Line)) (names : List (List ℕ)) (model : Option (List ℕ)) (lanes : List Queue) (said more : List Report) → Stands readings readings names model lanes said
     → AreFirst names lanes more → (who : Option (List ℕ)) → (rest : List Report) × (of_client who (said ++ more) ++ rest ≡ of_client who (answers (length lanes) readings))
 in_part_of readings names model lanes said more s f who =
     let r = f who in (
@@ -64,7 +64,7 @@ module _ {C R : Type 0} {G : Ghosts C} where
       }
 
   -- nothing is read or said yet
-  pub after_none : (state : State C R G) → names_in state.lanes ≡ [] → state.plan ≡ None → AreBooked [] (lanes_in state.lanes) [] → After state [] []
+  pub after_none : (state : State C R G) → names_in state.lanes ≡ [] → state.plan ≡ None → AreBooked [] (unhanded (lanes_in state.lanes)) [] → After state [] []
   after_none state names plan booked = record {
     readings = [];
     read = tt;
@@ -100,14 +100,14 @@ due_to_whole_name : (m : List ℕ) (names : List (List ℕ)) (ends : List (Settl
 due_to_whole_name m [] ends w = refl
 due_to_whole_name m (n ∷ names) [] w = refl
 due_to_whole_name m (n ∷ names) (end ∷ ends) w =
-    rw (due-whole n (lane_in end) (whole_owes end (w 0 end refl)), due_to_whole_name m names ends (λ k e h. w (suc k) e h)) (none_either (bytes_eq n m))
+    rw (due-whole n (queue_in end) (whole_owes end (w 0 end refl)), due_to_whole_name m names ends (λ k e h. w (suc k) e h)) (none_either (bytes_eq n m))
 
 pub due_to_whole : (names : List (List ℕ)) (ends : List (SettledEnd Request Outcome)) → All IsWhole ends → (who : Option (List ℕ)) → due_to who names (ends_lanes ends) ≡ []
 due_to_whole names ends w None = refl
 due_to_whole names ends w (Some m) = due_to_whole_name m names ends (whole_at ends w)
 
 -- everything that was owed is handed out
-pub served_more : {C R : Type 0} {G : Ghosts C} (state : State C R G) (new : List Lane) → ((who : Option (List ℕ)) → due_to who (names_in state.lanes) new ≡ []) → (lines output : List (List ℕ)) (more : List Report)
+pub served_more : {C R : Type 0} {G : Ghosts C} (state : State C R G) (new : List Queue) → ((who : Option (List ℕ)) → due_to who (names_in state.lanes) new ≡ []) → (lines output : List (List ℕ)) (more : List Report)
     → After state lines output → AreHanded (names_in state.lanes) (lanes_in state.lanes) new more → Served (length (lanes_in state.lanes)) lines (output ++ texts_of more)
 served_more state new none lines output more a h =
     let s = stands_handed a.readings a.readings (names_in state.lanes) _ (lanes_in state.lanes) new a.said more a.stands h in
@@ -121,6 +121,13 @@ served_more state new none lines output more a h =
           ∙ s.owed who ∙ ap (λ k. of_client who (answers k a.readings)) len;
     }
 
+-- what is booked of the ends is so whatever was handed out
+ends_booked : (names : List (List ℕ)) (ends : List (SettledEnd Request Outcome)) (read : List (Reading Line)) → AreBooked names (unhanded (ends_lanes ends)) read → AreBooked names (map (λ end. lane_in end) ends) read
+ends_booked [] [] read b = tt
+ends_booked [] (end ∷ ends) read b = (b.0, b.1, ends_booked [] ends read b.2)
+ends_booked (n ∷ names) [] read b = absurd b
+ends_booked (n ∷ names) (end ∷ ends) read b = (b.0, b.1, ends_booked names ends read b.2)
+
 -- and each end is whole
 pub served_by : {C R : Type 0} {G : Ghosts C} (state : State C R G) (ends : List (SettledEnd Request Outcome)) (lines output : List (List ℕ)) (more : List Report) → After state lines output
     → AreHanded (names_in state.lanes) (lanes_in state.lanes) (ends_lanes ends) more → All IsWhole ends
@@ -130,7 +137,7 @@ served_by state ends lines output more a h w =
     let s = stands_handed a.readings a.readings (names_in state.lanes) _ (lanes_in state.lanes) (ends_lanes ends) a.said more a.stands h in
     record {
       served = served_more state (ends_lanes ends) (due_to_whole (names_in state.lanes) ends w) lines output more a h;
-      each = sym (length-map ends (λ end. lane_in end)) ∙ length-unhanded (ends_lanes ends) (lanes_in state.lanes) h.lanes;
-      booked = subst (λ names. AreBooked names (ends_lanes ends) a.readings) a.stands.names s.booked;
+      each = sym (length-map ends (λ end. queue_in end)) ∙ length-unhanded (ends_lanes ends) (lanes_in state.lanes) h.lanes;
+      booked = ends_booked (names_with_lanes (length (lanes_in state.lanes)) a.readings) ends a.readings (subst (λ names. AreBooked names (unhanded (ends_lanes ends)) a.readings) a.stands.names s.booked);
       whole = w;
     }

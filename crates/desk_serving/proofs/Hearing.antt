@@ -5,7 +5,7 @@ use Rattle.std.proofs.lemmas.List.{map-append, reverse-append, length-map, lengt
 use Rattle.desk_requests.specs.Line.{Line, Reads, line_view}
 use Rattle.desk_serving.specs.LanesView.{lane_held, lanes_in, links_held, links_in, names_in}
 use Rattle.desk_lines.specs.Lines.{ended}
-use Rattle.desk_serving.specs.Owed.{Lane, AreBooked, Hands, unhanded}
+use Rattle.desk_serving.specs.Owed.{Queue, AreBooked, Hands, unhanded}
 use Rattle.desk_wire.specs.Reading.{Reading, Blank, Long, Syntax, Shape, Says}
 use Rattle.desk_wire.specs.Reports.{Report, Refused, report_text}
 use Rattle.desk_wire.specs.declared.word.Word.TheVariants as word
@@ -34,22 +34,22 @@ on_ok_both (Err e) f a b = tt
 -- ## Lanes
 
 -- each name has its lane
-pub booked_lane : (names : List (List ℕ)) (lanes : List Lane) (earlier : List (Reading Line)) (c : ℕ) (n : List ℕ) → AreBooked names lanes earlier → slice_get names c ≡ Some n
-    → (lane : Lane) × (slice_get lanes c ≡ Some lane)
+pub booked_lane : (names : List (List ℕ)) (lanes : List Queue) (earlier : List (Reading Line)) (c : ℕ) (n : List ℕ) → AreBooked names (unhanded lanes) earlier → slice_get names c ≡ Some n
+    → (lane : Queue) × (slice_get lanes c ≡ Some lane)
 booked_lane [] lanes earlier c n b at = cc
 booked_lane (m ∷ names) [] earlier c n b at = absurd b
 booked_lane (m ∷ names) (l ∷ lanes) earlier zero n b at = (l, refl)
 booked_lane (m ∷ names) (l ∷ lanes) earlier (suc c) n b at = booked_lane names lanes earlier c n b.2 at
 
 -- a lane has no more requests than there are lines
-put-few : (names : List (List ℕ)) (lanes : List Lane) (earlier : List (Reading Line)) (c : ℕ) (lane : Lane) → AreBooked names lanes earlier → slice_get lanes c ≡ Some lane
+put-few : (names : List (List ℕ)) (lanes : List Queue) (earlier : List (Reading Line)) (c : ℕ) (lane : Queue) → AreBooked names (unhanded lanes) earlier → slice_get lanes c ≡ Some lane
     → length lane.put ≤ length earlier
 put-few names [] earlier c lane b la = cc
 put-few [] (l ∷ lanes) earlier zero lane b la =
-    let is : l ≡ lane = cc in subst (λ (x : Lane). length x.put ≤ length earlier) is (rw b.0 (omega arith))
+    let is : l ≡ lane = cc in subst (λ (x : Queue). length x.put ≤ length earlier) is (rw b.0 (omega arith))
 put-few [] (l ∷ lanes) earlier (suc c) lane b la = put-few [] lanes earlier c lane b.2 la
 put-few (n ∷ names) (l ∷ lanes) earlier zero lane b la =
-    let is : l ≡ lane = cc in subst (λ (x : Lane). length x.put ≤ length earlier) is (rw b.0 (requests-few n earlier))
+    let is : l ≡ lane = cc in subst (λ (x : Queue). length x.put ≤ length earlier) is (rw b.0 (requests-few n earlier))
 put-few (n ∷ names) (l ∷ lanes) earlier (suc c) lane b la = put-few names lanes earlier c lane b.2 la
 
 module _ {C R : Type 0} {G : Ghosts C} where

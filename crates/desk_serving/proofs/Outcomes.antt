@@ -9,7 +9,7 @@ use Rattle.desk_lines.specs.declared.fault.FrontFault.TheVariants.{Read, Write, 
 use Rattle.desk_lines.proofs.Coming.{Appends-none}
 use Rattle.desk_lines.proofs.Gathering.{all_written, gathers_quiet}
 use Rattle.desk_wire.specs.Reports.{Report}
-use Rattle.desk_serving.specs.Owed.{AreFirst, AreHanded, Hands, Lane}
+use Rattle.desk_serving.specs.Owed.{AreFirst, AreHanded, Hands, Queue}
 use Rattle.desk_serving.specs.Script.{texts_of}
 use Rattle.desk_serving.specs.Telling.{HandsOut, Tells, TellsAll, TellsInPart, WritesOut}
 use Rattle.desk_serving.proofs.Owing.{handed_first}
@@ -110,7 +110,7 @@ module _ (A Whole Part : List Report → Type 0) (old mid new : Writer) (r s t t
   }
 
 -- the same, of what lanes handed out
-module _ (names ns : List (List ℕ)) (x y z : List Lane) (Whole : List Report → Type 0) (old mid new : Writer) (r s t empty text piece : List ℕ) {X : Type 0} where
+module _ (names ns : List (List ℕ)) (x y z : List Queue) (Whole : List Report → Type 0) (old mid new : Writer) (r s t empty text piece : List ℕ) {X : Type 0} where
   pub lanes_lost : (fault : FrontFault) → ns ≡ names → empty ≡ [] → piece ≡ text → Tells (AreHanded names x y) old.contents mid.contents r s → mid.faults ≡ old.faults → Hands ns y z empty text
       → (failed X fault ≡ failed X Write → (rest : List ℕ) × Gathers mid.contents new.contents s piece rest)
       → (failed X fault ≡ failed X Memory → Gathers mid.contents new.contents s [] t)

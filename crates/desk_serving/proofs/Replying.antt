@@ -9,7 +9,7 @@ use Rattle.dmn_plan.specs.declared.fault.TaskFault.{TaskFault}
 use Rattle.desk_requests.specs.Line.{Line, Model, Request, Close}
 use Rattle.desk_wire.specs.Words.{task_fault_word}
 use Rattle.desk_lines.specs.Lines.{ended}
-use Rattle.desk_serving.specs.Owed.{Lane, due_to, due_to_name, unhanded, AreBooked, HandsThen, Stands, with_put, with_closed}
+use Rattle.desk_serving.specs.Owed.{Queue, due_to, unhanded, AreBehind, AreBooked, HandsThen, Stands, with_put}
 use Rattle.desk_requests.specs.State.{AreDistinct, with_lane, callers, has_lane, in_force, is_closed, requests_under, requests, number_after}
 use Rattle.desk_wire.specs.Reading.{Reading, Blank, Long, Syntax, Shape, Says}
 use Rattle.desk_wire.specs.Reports.{Report, Refused, Of, client_on, report_text}
@@ -25,19 +25,19 @@ use Rattle.desk_serving.proofs.Standing.{booked_same, booked_at, booked-set, due
 use Rattle.desk_requests.proofs.Callers.{requests-other, requests-refused, requests-closed, requests-accepted, quiet}
 
 -- what a line that is heard comes to
-abbrev pub IsHeard : Reading Line → List (Reading Line) → List (List ℕ) → Option (List ℕ) → List Lane → List Report → List ℕ → List ℕ → Type 0
+abbrev pub IsHeard : Reading Line → List (Reading Line) → List (List ℕ) → Option (List ℕ) → List Queue → List Report → List ℕ → List ℕ → Type 0
 IsHeard reading earlier names model lanes said text text' =
     (more : List Report) × (text' ≡ text ++ flat_map ended (texts_of more)) × Stands (reading ∷ earlier) (reading ∷ earlier) names model lanes (said ++ more)
 
-heard : (reading : Reading Line) (earlier : List (Reading Line)) (names : List (List ℕ)) (model model' : Option (List ℕ)) (lanes new : List Lane) (said : List Report) (e : Report) (text text' : List ℕ)
+heard : (reading : Reading Line) (earlier : List (Reading Line)) (names : List (List ℕ)) (model model' : Option (List ℕ)) (lanes new : List Queue) (said : List Report) (e : Report) (text text' : List ℕ)
     → Stands (reading ∷ earlier) earlier names model lanes said → HandsThen names lanes new e text text' → answer (length lanes) earlier reading ≡ e ∷ []
-    → length new ≡ length lanes → model' ≡ in_force (reading ∷ earlier) → AreBooked names new (reading ∷ earlier)
+    → length new ≡ length lanes → model' ≡ in_force (reading ∷ earlier) → AreBooked names (unhanded new) (reading ∷ earlier)
     → IsHeard reading earlier names model' new said text text'
 heard reading earlier names model model' lanes new said e text text' s h is len force booked =
     (h.more, h.is, stands_answered reading earlier names model model' lanes new said h.more e s is h.owed len force booked)
 
 -- a line that needs no lane
-needs_none : (reading : Reading Line) (earlier : List (Reading Line)) (names : List (List ℕ)) (model : Option (List ℕ)) (lanes : List Lane) (said : List Report)
+needs_none : (reading : Reading Line) (earlier : List (Reading Line)) (names : List (List ℕ)) (model : Option (List ℕ)) (lanes : List Queue) (said : List Report)
     → Stands earlier earlier names model lanes said → callers (reading ∷ earlier) ≡ callers earlier → Stands (reading ∷ earlier) earlier names model lanes said
 needs_none reading earlier names model lanes said s cs = record {
   names = s.names ∙ ap (take (length lanes)) (sym cs);
@@ -49,7 +49,7 @@ needs_none reading earlier names model lanes said s cs = record {
 
 -- ## Blank lines, and lines that are none
 
-pub heard_blank : (earlier : List (Reading Line)) (names : List (List ℕ)) (model : Option (List ℕ)) (lanes : List Lane) (said : List Report) (text : List ℕ)
+pub heard_blank : (earlier : List (Reading Line)) (names : List (List ℕ)) (model : Option (List ℕ)) (lanes : List Queue) (said : List Report) (text : List ℕ)
     → Stands earlier earlier names model lanes said → IsHeard Blank earlier names model lanes said text text
 heard_blank earlier names model lanes said text s = (
   [],
@@ -71,7 +71,7 @@ IsNone Syntax why = why ≡ word.Syntax
 IsNone Shape why = why ≡ word.Shape
 IsNone (Says line) why = ⊥
 
-pub heard_none : (reading : Reading Line) (why : Word) (k : ℕ) (earlier : List (Reading Line)) (names : List (List ℕ)) (model : Option (List ℕ)) (lanes : List Lane) (said : List Report) (text text' : List ℕ)
+pub heard_none : (reading : Reading Line) (why : Word) (k : ℕ) (earlier : List (Reading Line)) (names : List (List ℕ)) (model : Option (List ℕ)) (lanes : List Queue) (said : List Report) (text text' : List ℕ)
     → IsNone reading why → Stands earlier earlier names model lanes said → k ≡ number_after earlier → text' ≡ text ++ ended (report_text (Refused k why))
     → IsHeard reading earlier names model lanes said text text'
 heard_none Blank why k earlier names model lanes said text text' none s num is = absurd none
@@ -94,7 +94,7 @@ heard_none (Says line) why k earlier names model lanes said text text' none s nu
 
 -- ## Models
 
-pub heard_model : (json : Data) (k : ℕ) (e : Report) (earlier : List (Reading Line)) (names : List (List ℕ)) (model model' : Option (List ℕ)) (lanes : List Lane) (said : List Report) (text text' : List ℕ)
+pub heard_model : (json : Data) (k : ℕ) (e : Report) (earlier : List (Reading Line)) (names : List (List ℕ)) (model model' : Option (List ℕ)) (lanes : List Queue) (said : List Report) (text text' : List ℕ)
     → Stands earlier earlier names model lanes said → k ≡ number_after earlier → client_on e ≡ None → e ≡ model_answer k (read_model json) → text' ≡ text ++ ended (report_text e)
     → model' ≡ in_force (Says (Model json) ∷ earlier) → IsHeard (Says (Model json)) earlier names model' lanes said text text'
 heard_model json k e earlier names model model' lanes said text text' s num none v is force =
@@ -106,23 +106,24 @@ heard_model json k e earlier names model model' lanes said text text' s num none
 -- ## Requests
 
 -- no model is in force
-pub heard_no_model : (n s : List ℕ) (i : Data) (k : ℕ) (earlier : List (Reading Line)) (names : List (List ℕ)) (model : Option (List ℕ)) (lanes : List Lane) (said : List Report) (text text' : List ℕ)
-    → Stands earlier earlier names model lanes said → model ≡ None → k ≡ number_after earlier → text' ≡ text ++ ended (report_text (Of n k (told.Refused word.Model)))
+pub heard_no_model : (n s : List ℕ) (i : Data) (k : ℕ) (earlier : List (Reading Line)) (names : List (List ℕ)) (model : Option (List ℕ)) (lanes : List Queue) (said : List Report) (text text' : List ℕ)
+    → AreBehind lanes → Stands earlier earlier names model lanes said → model ≡ None → k ≡ number_after earlier → text' ≡ text ++ ended (report_text (Of n k (told.Refused word.Model)))
     → IsHeard (Says (Request n s i)) earlier names model lanes said text text'
-heard_no_model n s i k earlier names model lanes said text text' st none num is =
+heard_no_model n s i k earlier names model lanes said text text' f st none num is =
     let reading = Says (Request n s i) in let e = Of n k (told.Refused word.Model) in
     let out : in_force earlier ≡ None = sym st.model ∙ none in
     heard reading earlier names model model lanes lanes said e text text' (needs_none reading earlier names model lanes said st (rw out refl))
-    (hands_then_report names lanes lanes e text text text' (hands_none names lanes text) (due_to_quiet n names lanes earlier st.booked (quiet n earlier out)) is)
+    (hands_then_report names lanes lanes e text text text' (hands_none names lanes text) (due_to_quiet n names lanes earlier f st.booked (quiet n earlier out)) is)
     (rw out (ap (λ j. Of n j (told.Refused word.Model) ∷ []) (sym num)))
     refl st.model (booked_same names lanes lanes earlier (reading ∷ earlier) refl st.booked (λ m among. (requests-refused m n s i earlier (rw out refl), refl)))
 
 -- the line's name got a lane, if there was one
-pub named_request : (n s : List ℕ) (i : Data) (t : List ℕ) (earlier : List (Reading Line)) (names names' : List (List ℕ)) (model : Option (List ℕ)) (lanes : List Lane) (said : List Report)
-    → Stands earlier earlier names model lanes said → model ≡ Some t → names' ≡ with_lane (length lanes) n names → Stands (Says (Request n s i) ∷ earlier) earlier names' model lanes said
-named_request n s i t earlier names names' model lanes said st some is =
+pub named_request : (n s : List ℕ) (i : Data) (t : List ℕ) (earlier : List (Reading Line)) (names names' : List (List ℕ)) (model : Option (List ℕ)) (lanes : List Queue) (said : List Report)
+    → AreBehind lanes → Stands earlier earlier names model lanes said → model ≡ Some t → names' ≡ with_lane (length lanes) n names
+    → Stands (Says (Request n s i) ∷ earlier) earlier names' model lanes said
+named_request n s i t earlier names names' model lanes said f st some is =
     let out : in_force earlier ≡ Some t = sym st.model ∙ some in
-    stands_named n (Says (Request n s i)) earlier names names' model lanes said st (rw out refl) is
+    stands_named n (Says (Request n s i)) earlier names names' model lanes said f st (rw out refl) is
 
 apart : (n m : List ℕ) (names : List (List ℕ)) (t : Bool) → bytes_eq n m ≡ t → is_among names n ≡ false → is_among names m ≡ true → bytes_eq n m ≡ false
 apart n m names true e absent among =
@@ -131,7 +132,7 @@ apart n m names true e absent among =
 apart n m names false e absent among = e
 
 -- no lane is left
-pub heard_no_lane : (n s : List ℕ) (i : Data) (t : List ℕ) (k : ℕ) (earlier : List (Reading Line)) (names : List (List ℕ)) (model : Option (List ℕ)) (lanes : List Lane) (said : List Report) (text text' : List ℕ)
+pub heard_no_lane : (n s : List ℕ) (i : Data) (t : List ℕ) (k : ℕ) (earlier : List (Reading Line)) (names : List (List ℕ)) (model : Option (List ℕ)) (lanes : List Queue) (said : List Report) (text text' : List ℕ)
     → Stands (Says (Request n s i) ∷ earlier) earlier names model lanes said → model ≡ Some t → is_among names n ≡ false → k ≡ number_after earlier
     → text' ≡ text ++ ended (report_text (Of n k (told.Refused word.Clients))) → IsHeard (Says (Request n s i)) earlier names model lanes said text text'
 heard_no_lane n s i t k earlier names model lanes said text text' st some absent num is =
@@ -147,10 +148,10 @@ heard_no_lane n s i t k earlier names model lanes said text text' st some absent
     (λ m among. (requests-other m n s i earlier (apart n m names (bytes_eq n m) refl absent among), refl)))
 
 -- the name has a lane, and this is the answer there
-pub heard_task : (n s : List ℕ) (i : Data) (t : List ℕ) (k : ℕ) (e : Report) (earlier : List (Reading Line)) (names : List (List ℕ)) (model : Option (List ℕ)) (lanes new : List Lane) (said : List Report) (text text' : List ℕ)
+pub heard_task : (n s : List ℕ) (i : Data) (t : List ℕ) (k : ℕ) (e : Report) (earlier : List (Reading Line)) (names : List (List ℕ)) (model : Option (List ℕ)) (lanes new : List Queue) (said : List Report) (text text' : List ℕ)
     → Stands (Says (Request n s i) ∷ earlier) earlier names model lanes said → model ≡ Some t → is_among names n ≡ true → k ≡ number_after earlier
     → e ≡ task_answer k n (is_closed n earlier) (length (requests n earlier)) (plan.request_of t s i) → HandsThen names lanes new e text text'
-    → length new ≡ length lanes → AreBooked names new (Says (Request n s i) ∷ earlier) → IsHeard (Says (Request n s i)) earlier names model new said text text'
+    → length new ≡ length lanes → AreBooked names (unhanded new) (Says (Request n s i) ∷ earlier) → IsHeard (Says (Request n s i)) earlier names model new said text text'
 heard_task n s i t k e earlier names model lanes new said text text' st some inside num v h len booked =
     let reading = Says (Request n s i) in
     let out : in_force earlier ≡ Some t = sym st.model ∙ some in
@@ -162,7 +163,7 @@ heard_task n s i t k e earlier names model lanes new said text text' st some ins
     len st.model booked
 
 -- there is no such task
-pub heard_no_task : (n s : List ℕ) (i : Data) (t : List ℕ) (k : ℕ) (f : TaskFault) (earlier : List (Reading Line)) (names : List (List ℕ)) (model : Option (List ℕ)) (lanes new : List Lane) (said : List Report) (text text' : List ℕ)
+pub heard_no_task : (n s : List ℕ) (i : Data) (t : List ℕ) (k : ℕ) (f : TaskFault) (earlier : List (Reading Line)) (names : List (List ℕ)) (model : Option (List ℕ)) (lanes new : List Queue) (said : List Report) (text text' : List ℕ)
     → Stands (Says (Request n s i) ∷ earlier) earlier names model lanes said → model ≡ Some t → is_among names n ≡ true → k ≡ number_after earlier
     → plan.request_of t s i ≡ Err f → HandsThen names lanes new (Of n k (told.Refused (task_fault_word f))) text text' → unhanded new ≡ unhanded lanes → IsHeard (Says (Request n s i)) earlier names model new said text text'
 heard_no_task n s i t k f earlier names model lanes new said text text' st some inside num bad h same =
@@ -181,13 +182,13 @@ length-set (y ∷ xs) zero x = refl
 length-set (y ∷ xs) (suc c) x = ap suc (length-set xs c x)
 
 -- the lane with one more request, unless it is closed
-abbrev pub with_put_if : Lane → plan.Request → Lane
+abbrev pub with_put_if : Queue → plan.Request → Queue
 with_put_if lane request = if lane.closed then lane else with_put lane request
 
 -- the request is put into its lane, unless that is closed
-put_booked : (n s : List ℕ) (i : Data) (earlier : List (Reading Line)) (names : List (List ℕ)) (lanes new : List Lane) (c : ℕ) (lane : Lane) (q : plan.Request) (b : Bool) → AreDistinct names
-    → AreBooked names lanes earlier → slice_get names c ≡ Some n → slice_get lanes c ≡ Some lane → lane.closed ≡ b → requests_under (in_force earlier) s i ≡ q ∷ []
-    → unhanded new ≡ unhanded (slice_set lanes c (with_put_if lane q)) → AreBooked names new (Says (Request n s i) ∷ earlier)
+put_booked : (n s : List ℕ) (i : Data) (earlier : List (Reading Line)) (names : List (List ℕ)) (lanes new : List Queue) (c : ℕ) (lane : Queue) (q : plan.Request) (b : Bool) → AreDistinct names
+    → AreBooked names (unhanded lanes) earlier → slice_get names c ≡ Some n → slice_get lanes c ≡ Some lane → lane.closed ≡ b → requests_under (in_force earlier) s i ≡ q ∷ []
+    → unhanded new ≡ unhanded (slice_set lanes c (with_put_if lane q)) → AreBooked names (unhanded new) (Says (Request n s i) ∷ earlier)
 put_booked n s i earlier names lanes new c lane q true dis b at la closed good same =
     let book = booked_at names lanes earlier c n lane b at la in
     let is : unhanded new ≡ unhanded lanes = same ∙ ap unhanded (ap (slice_set lanes c) (rw closed refl) ∙ set_back lanes c lane la) in
@@ -201,7 +202,7 @@ put_booked n s i earlier names lanes new c lane q false dis b at la closed good 
     (ap (λ qs. qs ++ q ∷ []) book.0 ∙ sym (requests-accepted n s i earlier q open_yet good)) book.1
     (λ m far. (requests-other m n s i earlier far, refl))
 
-pub heard_put : (n s : List ℕ) (i : Data) (t : List ℕ) (k c : ℕ) (q : plan.Request) (earlier : List (Reading Line)) (names : List (List ℕ)) (model : Option (List ℕ)) (lanes new : List Lane) (lane : Lane) (said : List Report) (text text' : List ℕ)
+pub heard_put : (n s : List ℕ) (i : Data) (t : List ℕ) (k c : ℕ) (q : plan.Request) (earlier : List (Reading Line)) (names : List (List ℕ)) (model : Option (List ℕ)) (lanes new : List Queue) (lane : Queue) (said : List Report) (text text' : List ℕ)
     → Stands (Says (Request n s i) ∷ earlier) earlier names model lanes said → model ≡ Some t → slice_get names c ≡ Some n → slice_get lanes c ≡ Some lane → k ≡ number_after earlier
     → plan.request_of t s i ≡ Ok q → HandsThen names lanes new (task_answer k n lane.closed (length lane.put) (Ok q)) text text'
     → unhanded new ≡ unhanded (slice_set lanes c (with_put_if lane q)) → IsHeard (Says (Request n s i)) earlier names model new said text text'
@@ -216,9 +217,9 @@ heard_put n s i t k c q earlier names model lanes new lane said text text' st so
 
 -- ## Closes
 
-pub named_close : (n : List ℕ) (earlier : List (Reading Line)) (names names' : List (List ℕ)) (model : Option (List ℕ)) (lanes : List Lane) (said : List Report)
-    → Stands earlier earlier names model lanes said → names' ≡ with_lane (length lanes) n names → Stands (Says (Close n) ∷ earlier) earlier names' model lanes said
-named_close n earlier names names' model lanes said st is = stands_named n (Says (Close n)) earlier names names' model lanes said st refl is
+pub named_close : (n : List ℕ) (earlier : List (Reading Line)) (names names' : List (List ℕ)) (model : Option (List ℕ)) (lanes : List Queue) (said : List Report)
+    → AreBehind lanes → Stands earlier earlier names model lanes said → names' ≡ with_lane (length lanes) n names → Stands (Says (Close n) ∷ earlier) earlier names' model lanes said
+named_close n earlier names names' model lanes said f st is = stands_named n (Says (Close n)) earlier names names' model lanes said f st refl is
 
 closed-other : (m n : List ℕ) (earlier : List (Reading Line)) → bytes_eq n m ≡ false → is_closed m (Says (Close n) ∷ earlier) ≡ is_closed m earlier
 closed-other m n earlier e = rw e refl
@@ -226,7 +227,7 @@ closed-other m n earlier e = rw e refl
 closed-own : (n : List ℕ) (earlier : List (Reading Line)) → is_closed n (Says (Close n) ∷ earlier) ≡ true
 closed-own n earlier = rw (name_itself n) refl
 
-pub heard_close_no_lane : (n : List ℕ) (k : ℕ) (earlier : List (Reading Line)) (names : List (List ℕ)) (model : Option (List ℕ)) (lanes : List Lane) (said : List Report) (text text' : List ℕ)
+pub heard_close_no_lane : (n : List ℕ) (k : ℕ) (earlier : List (Reading Line)) (names : List (List ℕ)) (model : Option (List ℕ)) (lanes : List Queue) (said : List Report) (text text' : List ℕ)
     → Stands (Says (Close n) ∷ earlier) earlier names model lanes said → is_among names n ≡ false → k ≡ number_after earlier
     → text' ≡ text ++ ended (report_text (Of n k (told.Refused word.Clients))) → IsHeard (Says (Close n)) earlier names model lanes said text text'
 heard_close_no_lane n k earlier names model lanes said text text' st absent num is =
@@ -239,45 +240,25 @@ heard_close_no_lane n k earlier names model lanes said text text' st absent num 
     refl st.model (booked_same names lanes lanes earlier (reading ∷ earlier) refl st.booked
     (λ m among. (refl, closed-other m n earlier (apart n m names (bytes_eq n m) refl absent among))))
 
--- the lane is closed, if it was not, and its earlier results are handed out
-pub heard_close : (n : List ℕ) (k c : ℕ) (e : Report) (earlier : List (Reading Line)) (names : List (List ℕ)) (model : Option (List ℕ)) (lanes new : List Lane) (lane : Lane) (said : List Report) (text text' : List ℕ)
+-- the lane is closed, if it was not
+pub heard_close : (n : List ℕ) (k c : ℕ) (e : Report) (earlier : List (Reading Line)) (names : List (List ℕ)) (model : Option (List ℕ)) (lanes new : List Queue) (lane shut : Queue) (said : List Report) (text text' : List ℕ)
     → Stands (Says (Close n) ∷ earlier) earlier names model lanes said → slice_get names c ≡ Some n → slice_get lanes c ≡ Some lane → k ≡ number_after earlier
-    → e ≡ close_answer k n true lane.closed → unhanded new ≡ unhanded (slice_set lanes c (with_closed lane))
+    → e ≡ close_answer k n true lane.closed → shut.put ≡ lane.put → shut.closed ≡ true → unhanded new ≡ unhanded (slice_set lanes c shut)
     → HandsThen names lanes new e text text' → IsHeard (Says (Close n)) earlier names model new said text text'
-heard_close n k c e earlier names model lanes new lane said text text' st at la num v same h =
+heard_close n k c e earlier names model lanes new lane shut said text text' st at la num v put closed same h =
     let reading = Says (Close n) in
     let book = booked_at names lanes earlier c n lane st.booked at la in
     let inside : has_lane (length lanes) (reading ∷ earlier) n ≡ true = ap (λ ns. is_among ns n) (sym st.names) ∙ among_at n names c at in
     heard reading earlier names model model lanes new said e text text' st h
     (ap (λ b. close_answer (number_after earlier) n b (is_closed n earlier) ∷ []) inside
     ∙ ap (λ x. x ∷ []) (sym (v ∙ ap (λ j. close_answer j n true lane.closed) num ∙ ap (close_answer (number_after earlier) n true) book.1)))
-    (length-unhanded new (slice_set lanes c (with_closed lane)) same ∙ length-set lanes c (with_closed lane)) st.model
-    (booked-set names lanes new earlier (reading ∷ earlier) c n (with_closed lane) st.distinct st.booked at same book.0 (sym (closed-own n earlier))
+    (length-unhanded new (slice_set lanes c shut) same ∙ length-set lanes c shut) st.model
+    (booked-set names lanes new earlier (reading ∷ earlier) c n shut st.distinct st.booked at same (put ∙ book.0) (closed ∙ sym (closed-own n earlier))
     (λ m far. (refl, closed-other m n earlier far)))
-
--- closing changes nothing of what is owed
-due_to_closed_name : (m : List ℕ) (names : List (List ℕ)) (lanes : List Lane) (c : ℕ) (lane : Lane) → slice_get lanes c ≡ Some lane → due_to_name m names (slice_set lanes c (with_closed lane)) ≡ due_to_name m names lanes
-due_to_closed_name m [] lanes c lane la = refl
-due_to_closed_name m (n ∷ names) [] c lane la = refl
-due_to_closed_name m (n ∷ names) (x ∷ lanes) zero lane la = let is : x ≡ lane = cc in rw is refl
-due_to_closed_name m (n ∷ names) (x ∷ lanes) (suc c) lane la = rw (due_to_closed_name m names lanes c lane la) refl
-
-pub due_to_closed : (names : List (List ℕ)) (lanes : List Lane) (c : ℕ) (lane : Lane) → slice_get lanes c ≡ Some lane → (who : Option (List ℕ)) → due_to who names (slice_set lanes c (with_closed lane)) ≡ due_to who names lanes
-due_to_closed names lanes c lane la None = refl
-due_to_closed names lanes c lane la (Some m) = due_to_closed_name m names lanes c lane la
-
--- what is told once the lane is closed stands behind all that was owed before
-pub hands_closed : (names : List (List ℕ)) (lanes shut new : List Lane) (c : ℕ) (lane : Lane) (e : Report) (text text' : List ℕ) → slice_get lanes c ≡ Some lane → shut ≡ slice_set lanes c (with_closed lane)
-    → HandsThen names shut new e text text' → HandsThen names lanes new e text text'
-hands_closed names lanes shut new c lane e text text' la is h = record {
-  more = h.more;
-  is = h.is;
-  owed = λ who. h.owed who ∙ ap (λ t. t ++ of_client who (e ∷ [])) (ap (due_to who names) is ∙ due_to_closed names lanes c lane la who);
-}
 
 -- ## A line that changes no client
 
-pub heard_told : (reading : Reading Line) (e : Report) (earlier : List (Reading Line)) (names : List (List ℕ)) (model : Option (List ℕ)) (lanes new : List Lane) (said : List Report) (text text' : List ℕ)
+pub heard_told : (reading : Reading Line) (e : Report) (earlier : List (Reading Line)) (names : List (List ℕ)) (model : Option (List ℕ)) (lanes new : List Queue) (said : List Report) (text text' : List ℕ)
     → Stands (reading ∷ earlier) earlier names model lanes said → in_force (reading ∷ earlier) ≡ in_force earlier
     → ((m : List ℕ) → (requests m (reading ∷ earlier) ≡ requests m earlier) × (is_closed m (reading ∷ earlier) ≡ is_closed m earlier))
     → answer (length lanes) earlier reading ≡ e ∷ [] → unhanded new ≡ unhanded lanes → HandsThen names lanes new e text text'

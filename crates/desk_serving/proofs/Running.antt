@@ -5,7 +5,7 @@ use Rattle.feel_value.specs.declared.feel.Outcome.{Outcome}
 use Rattle.lanes.specs.Ends.{ClientEnd}
 use Rattle.lanes.specs.Books.{work_of}
 use Rattle.lanes.specs.Made.{AreNew}
-use Rattle.desk_serving.specs.Owed.{AreBooked, lane_of}
+use Rattle.desk_serving.specs.Owed.{AreBooked, queue_of, unhanded}
 use Rattle.desk_serving.specs.Running.{GoesOn}
 use Rattle.desk_lines.specs.Device.{Reader, Writer}
 use Rattle.desk_lines.specs.Ran.{Ran}
@@ -103,7 +103,7 @@ pub ran_from : (Whole Part : List (List ℕ) → List (List ℕ) → Type 0) (be
 ran_from Whole Part before reader reader' writer writer' end same h = subst (λ seen. Ran Whole Part seen reader' writer writer' end) same h
 
 -- new lanes are booked where nothing was read
-pub new_booked : (capacity : ℕ) (clients : List (ClientEnd Request Outcome)) → AreNew capacity clients → AreBooked [] (map (λ client. lane_of client) clients) []
+pub new_booked : (capacity : ℕ) (clients : List (ClientEnd Request Outcome)) → AreNew capacity clients → AreBooked [] (unhanded (map (λ client. queue_of client) clients)) []
 new_booked capacity [] h = tt
 new_booked capacity (x ∷ clients) h =
     let first = h 0 x (omega arith) in

@@ -7,7 +7,7 @@ use Rattle.std.proofs.lemmas.List.{take_all}
 use Rattle.desk_serving.specs.Running.{GoesOn}
 use Rattle.desk_lines.specs.Gathers.{Gathers}
 use Rattle.desk_lines.specs.Lines.{ended, lines_of, whole_lines_of, max_input}
-use Rattle.desk_serving.specs.Owed.{AreHanded, Hands, Lane}
+use Rattle.desk_serving.specs.Owed.{AreHanded, Hands, Queue}
 use Rattle.desk_wire.specs.Reports.{Report, report_text}
 use Rattle.desk_serving.specs.Script.{texts_of}
 use Rattle.desk_lines.specs.Talk.{IsHeard, Replays, Breaks, Overflows, IsCut, Stops, Ends}
@@ -50,7 +50,7 @@ pub tells_quiet : (A : List Report → Type 0) (a b c : Option (List ℕ)) (r s 
 tells_quiet A a b c r s t x g = record { more = x.more; are = x.are; gathers = gathers_quiet x.gathers g }
 
 -- what lanes hand out stands in a text
-pub hands_text : (names ns : List (List ℕ)) (x y z : List Lane) (empty text piece : List ℕ) → ns ≡ names → empty ≡ [] → piece ≡ text → Hands ns y z empty text
+pub hands_text : (names ns : List (List ℕ)) (x y z : List Queue) (empty text piece : List ℕ) → ns ≡ names → empty ≡ [] → piece ≡ text → Hands ns y z empty text
     → (k : List Report) × (piece ≡ flat_map ended (texts_of k)) × ((m : List Report) → AreHanded names x y m → AreHanded names x z (m ++ k))
 hands_text names ns x y z empty text piece same none whole h = (
   h.more,
@@ -59,7 +59,7 @@ hands_text names ns x y z empty text piece same none whole h = (
 )
 
 -- and goes on its way
-pub hands_tell : (names ns : List (List ℕ)) (x y z : List Lane) (a b c : Option (List ℕ)) (r s t empty text piece : List ℕ) → ns ≡ names → empty ≡ [] → piece ≡ text
+pub hands_tell : (names ns : List (List ℕ)) (x y z : List Queue) (a b c : Option (List ℕ)) (r s t empty text piece : List ℕ) → ns ≡ names → empty ≡ [] → piece ≡ text
     → Tells (AreHanded names x y) a b r s → Hands ns y z empty text → Gathers b c s piece t → Tells (AreHanded names x z) a c r t
 hands_tell names ns x y z a b c r s t empty text piece same none whole told h g =
     let out = hands_text names ns x y z empty text piece same none whole h in

@@ -5,7 +5,7 @@ use Rattle.dmn_plan.specs.Request.{Request}
 use Rattle.feel_value.specs.declared.feel.Outcome.{Outcome}
 use Rattle.lanes.specs.Ends.{SettledEnd}
 use Rattle.lanes.specs.Rest.{left_in, mail_in}
-use Rattle.desk_serving.specs.Owed.{AreBooked, Lane, lane_in}
+use Rattle.desk_serving.specs.Owed.{AreBooked, Queue, lane_in, queue_in}
 use Rattle.desk_serving.specs.Script.{Served}
 use Rattle.desk_requests.specs.State.{names_with_lanes}
 
@@ -32,5 +32,5 @@ pub record IsReady (end : SettledEnd Request Outcome) : Type 0 where
 abbrev pub IsRun : SettledEnd Request Outcome → Type 0
 IsRun end = (ticket : ℕ) → open_in (mail_in end) ticket ≡ None
 
-abbrev pub ends_lanes : List (SettledEnd Request Outcome) → List Lane
-ends_lanes ends = map (λ end. lane_in end) ends
+abbrev pub ends_lanes : List (SettledEnd Request Outcome) → List Queue
+ends_lanes ends = map (λ end. queue_in end) ends

@@ -1,5 +1,6 @@
 pub mod Script
 pub mod Owed
+pub mod Waits
 pub mod Submits
 pub mod LanesView
 pub mod StateView

@@ -3,7 +3,7 @@ use Rattle.std.specs.Prelude.{[], ◌⊎◌, All, ◌≡◌, ◌≢◌, ℕ, Lis
 use Rattle.dmn_plan.specs.Request.{Request}
 use Rattle.feel_value.specs.declared.feel.Outcome.{Outcome}
 use Rattle.desk_serving.specs.Ending.{IsWhole, ends_lanes}
-use Rattle.desk_serving.specs.Owed.{AreFirst, AreHanded, Lane, due_to}
+use Rattle.desk_serving.specs.Owed.{AreFirst, AreHanded, Queue, due_to}
 use Rattle.desk_serving.specs.Telling.{TellsAll, TellsInPart}
 use Rattle.desk_serving.specs.LanesView.{NothingWaits, lanes_in, links_in}
 use Rattle.desk_lines.specs.Device.{Reader, Writer}
@@ -36,13 +36,13 @@ module _ {C T R W : Type 0} {G : Ghosts C} (seen_reader : R → Reader) (seen_wr
     pub writer : new.writer.ghost_name ≡ old.writer.ghost_name
 
 -- the rest was handed out
-pub record IsHandedOut (names : List (List ℕ)) (lanes : List Lane) (wrote wrote' : Option (List ℕ)) (ends : List (SettledEnd Request Outcome)) : Type 0 where
+pub record IsHandedOut (names : List (List ℕ)) (lanes : List Queue) (wrote wrote' : Option (List ℕ)) (ends : List (SettledEnd Request Outcome)) : Type 0 where
   pub told : TellsAll (AreHanded names lanes (ends_lanes ends)) wrote wrote'
   pub whole : All IsWhole ends
 
 -- some of the rest was handed out before a fault, or all of it, or none where not all lines heard were answered
-abbrev pub FinishesBy : (names : List (List ℕ)) → (lanes : List Lane) → (wrote wrote' : Option (List ℕ)) → Result (Unit {0}) FrontFault → FrontFault → Type 0
+abbrev pub FinishesBy : (names : List (List ℕ)) → (lanes : List Queue) → (wrote wrote' : Option (List ℕ)) → Result (Unit {0}) FrontFault → FrontFault → Type 0
 FinishesBy names lanes wrote wrote' ended fault =
     (GoesOn ended × (fault ≡ Write) × TellsInPart (AreFirst names lanes) wrote wrote')
     ⊎ ((GoesOn ended × (fault ≡ Memory) × TellsAll (AreFirst names lanes) wrote wrote')
-    ⊎ ((ended ≡ Err fault) × ((GoesOn ended × ((new : List Lane) × TellsAll (AreHanded names lanes new) wrote wrote' × ((who : Option (List ℕ)) → due_to who names new ≡ []))) ⊎ (¬ GoesOn ended × (wrote' ≡ wrote)))))
+    ⊎ ((ended ≡ Err fault) × ((GoesOn ended × ((new : List Queue) × TellsAll (AreHanded names lanes new) wrote wrote' × ((who : Option (List ℕ)) → due_to who names new ≡ []))) ⊎ (¬ GoesOn ended × (wrote' ≡ wrote)))))

@@ -4,13 +4,13 @@ use Rattle.std.specs.Arc.{arc_value}
 use Rattle.std.specs.declared.alloc.Global.{Global}
 use Rattle.std.specs.declared.sync.Arc.{Arc}
 use Rattle.std.specs.List.{flat_map}
-use Rattle.box_core.specs.Mail.{is_no_capacity}
 use Rattle.dmn_plan.specs.Request as plan
 use Rattle.desk_lines.specs.Lines.{ended}
 use Rattle.desk_wire.specs.Reading.{Reading}
 use Rattle.desk_wire.specs.ReportView.{report_view}
 use Rattle.desk_wire.specs.Reports.{Report, Loaded, Of, Reply, report_text}
 use Rattle.desk_wire.specs.declared.heard.Heard.{Heard}
+use Rattle.desk_wire.specs.declared.report.Told.{Told}
 use Rattle.desk_wire.specs.declared.report.Told.TheVariants as told
 use Rattle.desk_requests.specs.Decider.{Decides}
 use Rattle.desk_requests.specs.Line.{Line, Reads, AreRead, line_view}
@@ -21,7 +21,7 @@ use Rattle.desk_requests.specs.declared.decider.Due.TheVariants as due
 use Rattle.desk_requests.specs.declared.decider.Seat.{Seat}
 use Rattle.desk_requests.specs.declared.line.Line as held
 use Rattle.desk_serving.specs.LanesView.{IsSeatIn, lanes_in, names_in}
-use Rattle.desk_serving.specs.Owed.{HandsThen, Lane, Stands, unhanded, with_closed, with_put}
+use Rattle.desk_serving.specs.Owed.{HandsThen, Queue, Stands, unhanded, with_put, with_told}
 use Rattle.desk_serving.specs.Script.{texts_of}
 use Rattle.desk_serving.specs.declared.state.State.{State}
 use Rattle.model_marks.specs.declared.mark.Catalog.{Ghosts}
@@ -44,7 +44,7 @@ module _ {C R : Type 0} {G : Ghosts C} where
 
   -- each lane has tickets left
   abbrev pub HasRoom : State C R G → Type 0
-  HasRoom state = (place : ℕ) (lane : Lane) → slice_get (lanes_in state.lanes) place ≡ Some lane → length lane.put < 2 ^ 60
+  HasRoom state = (place : ℕ) (lane : Queue) → slice_get (lanes_in state.lanes) place ≡ Some lane → length lane.put < 2 ^ 60
 
   -- whichever lines the old state is after, the new one is after this line too, and what came to be said of it is at the end of the text
   abbrev pub Hears : State C R G → ℕ → Reading Line → List ℕ → List ℕ → State C R G → Type 0
@@ -85,35 +85,39 @@ module _ {C R : Type 0} {G : Ghosts C} where
   IsDueToHeard state k heard None = IsLineOf heard None
   IsDueToHeard state k heard (Some what) = (line : held.Line) × IsLineOf heard (Some line) × IsDueTo state k (line_view line) what
 
-  -- it can be done: at the lane of the line's client, and where a request is put or a capacity given, that is open
+  -- it can be done: at the lane of the line's client, and where a request is put, that is open
   abbrev pub CanBeDone : State C R G → DueHere → Type 0
   CanBeDone state (due.Loaded text) = Unit {0}
   CanBeDone state (due.Told said) = Unit {0}
   CanBeDone state (due.Refused name seat why) = IsSeat state name.now (Some seat)
   CanBeDone state (due.Asked name service seat task) = IsSeat state name.now (Some seat) × (seat.is_closed ≡ false)
   CanBeDone state (due.Closed name seat) = IsSeat state name.now (Some seat)
-  CanBeDone state (due.Resized name seat n) = IsSeat state name.now (Some seat) × (seat.is_closed ≡ false) × (is_no_capacity n ≡ false)
+  CanBeDone state (due.Resized name seat n) = IsSeat state name.now (Some seat)
 
   -- ## What was done
 
   -- A client has its lane, and this report stands said, or is owed, behind all that was owed before. But for what was handed out,
   -- the lanes are these.
-  pub record IsAnswered (old : State C R G) (name : List ℕ) (lanes : List Lane) (report : Report) (text text' : List ℕ) (new : State C R G) : Type 0 where
+  pub record IsAnswered (old : State C R G) (name : List ℕ) (lanes : List Queue) (report : Report) (text text' : List ℕ) (new : State C R G) : Type 0 where
     pub model : model_of new ≡ model_of old
     pub names : names_in new.lanes ≡ with_lane (length (lanes_in old.lanes)) name (names_in old.lanes)
     pub lanes_are : unhanded (lanes_in new.lanes) ≡ unhanded lanes
     pub hands : HandsThen (names_in new.lanes) (lanes_in old.lanes) (lanes_in new.lanes) report text text'
+
+  -- this is told of the client's line with this number
+  abbrev pub IsToldAt : State C R G → List ℕ → Seat → ℕ → Told → List ℕ → List ℕ → State C R G → Type 0
+  IsToldAt old name seat k what text text' new =
+      (lane : Queue) → slice_get (lanes_in old.lanes) seat.place ≡ Some lane
+      → IsAnswered old name (slice_set (lanes_in old.lanes) seat.place (with_told k what lane)) (Of name k what) text text' new
 
   -- what is due to the line with this number was done
   abbrev pub Settles : ℕ → DueHere → State C R G → List ℕ → List ℕ → State C R G → Type 0
   Settles k (due.Loaded model) old text text' new =
       (model_of new ≡ Some model) × (new.lanes ≡ old.lanes) × (text' ≡ text ++ ended (report_text (Loaded k)))
   Settles k (due.Told said) old text text' new = (new ≡ old) × (text' ≡ text ++ ended (report_text (report_view said)))
-  Settles k (due.Refused name seat why) old text text' new = IsAnswered old name.now (lanes_in old.lanes) (Of name.now k (told.Refused why)) text text' new
+  Settles k (due.Refused name seat why) old text text' new = IsToldAt old name.now seat k (told.Refused why) text text' new
   Settles k (due.Asked name service seat task) old text text' new =
-      (lane : Lane) → slice_get (lanes_in old.lanes) seat.place ≡ Some lane
+      (lane : Queue) → slice_get (lanes_in old.lanes) seat.place ≡ Some lane
       → IsAnswered old name.now (slice_set (lanes_in old.lanes) seat.place (with_put lane (arc_value task))) (Reply name.now (length lane.put) (plan.request_result (arc_value task))) text text' new
-  Settles k (due.Closed name seat) old text text' new =
-      (lane : Lane) → slice_get (lanes_in old.lanes) seat.place ≡ Some lane
-      → IsAnswered old name.now (slice_set (lanes_in old.lanes) seat.place (with_closed lane)) (Of name.now k told.Closed) text text' new
-  Settles k (due.Resized name seat n) old text text' new = IsAnswered old name.now (lanes_in old.lanes) (Of name.now k (told.Resized n)) text text' new
+  Settles k (due.Closed name seat) old text text' new = IsToldAt old name.now seat k told.Closed text text' new
+  Settles k (due.Resized name seat n) old text text' new = IsToldAt old name.now seat k (told.Resized n) text text' new

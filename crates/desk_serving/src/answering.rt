@@ -1,14 +1,12 @@
 //! Each line is answered, or put into its client's lane.
 ghost use Rattle.std.specs.Prelude.{◌≡◌, ◌<◌, ◌^◌, ℕ, List, Some, false, slice_get, slice_set, length, IfOk, OnOk};
 ghost use Rattle.std.specs.Arc.{arc_value};
-ghost use Rattle.box_core.specs.Mail.{is_no_capacity};
 ghost use Rattle.dmn_plan.specs.Request.{request_result};
 ghost use Rattle.desk_wire.specs.Heard.{IsHeardAs};
 ghost use Rattle.desk_wire.specs.Reports as reports;
-ghost use Rattle.desk_wire.specs.declared.report.Told.TheVariants as told;
 ghost use Rattle.desk_serving.specs.LanesView.{lanes_in, links_in};
-ghost use Rattle.desk_serving.specs.Owed.{Lane, with_closed, with_put};
-ghost use Rattle.desk_serving.specs.StateView.{CanBeDone, HasRoom, HearsText, IsAnswered, IsDueToHeard, IsSeat, Settles, model_of};
+ghost use Rattle.desk_serving.specs.Owed.{Queue, with_put};
+ghost use Rattle.desk_serving.specs.StateView.{CanBeDone, HasRoom, HearsText, IsAnswered, IsDueToHeard, IsSeat, IsToldAt, Settles, model_of};
 
 use crate::deciding::DueHere;
 use crate::state::State;
@@ -16,7 +14,7 @@ use crate::until::Until;
 use crate::waiting::{hand_out_until, hand_out_until_read};
 use desk_lines::{Clerk, FrontFault, LineText, Sink, Source, Unwritten};
 use desk_requests::{Due, Seat, decide, line_heard};
-use desk_wire::{Heard, Report, Told, Word, add_refusal, hear};
+use desk_wire::{Heard, Report, Told, add_refusal, hear};
 use dmn_plan::Task;
 use json_reader::JsonReader;
 use model_marks::Catalog;
@@ -39,9 +37,9 @@ fn bytes_of(line: &LineText) -> usize {
 fn until_of<C: Catalog>(due: &Option<DueHere<'_, C>>, bytes: usize) -> Until {
     match due {
         Some(Due::Asked(_, _, seat, _)) => Until::Room(seat.place, bytes),
-        Some(Due::Refused(_, seat, _)) => Until::Whole(seat.place),
-        Some(Due::Closed(_, seat)) => Until::Whole(seat.place),
-        Some(Due::Resized(_, seat, _)) => Until::Whole(seat.place),
+        Some(Due::Refused(_, seat, _)) => Until::Told(seat.place, bytes),
+        Some(Due::Closed(_, seat)) => Until::Told(seat.place, bytes),
+        Some(Due::Resized(_, seat, _)) => Until::Told(seat.place, bytes),
         _ => Until::Now,
     }
 }
@@ -98,7 +96,7 @@ impl<'a, C: Catalog, R: Wait> State<'a, C, R> {
         requires seat { IsSeat self.old name.now (Some seat) }
         requires yet { seat.is_closed ≡ false }
         ensures same { links_in self.new.lanes ≡ links_in self.old.lanes }
-        ensures answers { OnOk result ((text : List ℕ) (lane : Lane) → slice_get (lanes_in self.old.lanes) seat.place ≡ Some lane →
+        ensures answers { OnOk result ((text : List ℕ) (lane : Queue) → slice_get (lanes_in self.old.lanes) seat.place ≡ Some lane →
             IsAnswered self.old name.now (slice_set (lanes_in self.old.lanes) seat.place (with_put lane (arc_value work)))
             (reports.Reply name.now (length lane.put) (request_result (arc_value work))) text text self.new) }
     {
@@ -106,65 +104,24 @@ impl<'a, C: Catalog, R: Wait> State<'a, C, R> {
         self.lanes.put(seat.place, work, bytes)
     }
 
-    /// Refuses a client's line behind the client's earlier results.
-    fn refuse(
+    /// Tells what comes of a client's line behind all that is owed to the client.
+    fn tell(
         &mut self,
         alloc: Global,
         number: u64,
         name: &str,
         seat: Seat,
-        why: Word,
+        told: Told,
+        bytes: usize,
         text: &mut Vec<u8>,
     ) -> Result<(), AllocError>
         requires seat { IsSeat self.old name.now (Some seat) }
         ensures same { links_in self.new.lanes ≡ links_in self.old.lanes }
-        ensures answers { OnOk result (IsAnswered self.old name.now (lanes_in self.old.lanes) (reports.Of name.now number (told.Refused why)) text.old.items text.new.items self.new) }
+        ensures answers { OnOk result (IsToldAt self.old name.now seat number told text.old.items text.new.items self.new) }
     {
         self.lanes.name_at(alloc, seat.place, name)?;
-        let told = Told::Refused(why);
         self.lanes
-            .report(self.rt, alloc, number, name, seat.place, told, text)
-    }
-
-    /// Closes a client's lane, and tells so behind the client's earlier results.
-    fn close(
-        &mut self,
-        alloc: Global,
-        number: u64,
-        name: &str,
-        seat: Seat,
-        text: &mut Vec<u8>,
-    ) -> Result<(), AllocError>
-        requires seat { IsSeat self.old name.now (Some seat) }
-        ensures same { links_in self.new.lanes ≡ links_in self.old.lanes }
-        ensures answers { OnOk result ((lane : Lane) → slice_get (lanes_in self.old.lanes) seat.place ≡ Some lane →
-            IsAnswered self.old name.now (slice_set (lanes_in self.old.lanes) seat.place (with_closed lane)) (reports.Of name.now number told.Closed) text.old.items text.new.items self.new) }
-    {
-        self.lanes.name_at(alloc, seat.place, name)?;
-        self.lanes.close(seat.place);
-        self.lanes.report(self.rt, alloc, number, name, seat.place, Told::Closed, text)
-    }
-
-    /// Gives a client's lane a capacity behind the client's earlier results. As no request is outstanding then, none is too many.
-    fn resize(
-        &mut self,
-        alloc: Global,
-        number: u64,
-        name: &str,
-        seat: Seat,
-        capacity: u32,
-        text: &mut Vec<u8>,
-    ) -> Result<(), AllocError>
-        requires seat { IsSeat self.old name.now (Some seat) }
-        requires yet { seat.is_closed ≡ false }
-        requires capacity { is_no_capacity capacity ≡ false }
-        ensures same { links_in self.new.lanes ≡ links_in self.old.lanes }
-        ensures answers { OnOk result (IsAnswered self.old name.now (lanes_in self.old.lanes) (reports.Of name.now number (told.Resized capacity)) text.old.items text.new.items self.new) }
-    {
-        self.lanes.name_at(alloc, seat.place, name)?;
-        self.lanes.drain(self.rt, alloc, seat.place, text)?;
-        self.lanes.resize(seat.place, capacity)?;
-        Report::Of(name, number, Told::Resized(capacity)).add_to(alloc, text)
+            .tell(alloc, number, name, seat.place, told, bytes, text)
     }
 
     /// Does what is due to a line of so many bytes.
@@ -187,11 +144,23 @@ impl<'a, C: Catalog, R: Wait> State<'a, C, R> {
                 Report::Loaded(number).add_to(alloc, text)
             }
             Due::Told(report) => report.add_to(alloc, text),
-            Due::Refused(name, seat, why) => self.refuse(alloc, number, name, seat, why, text),
+            Due::Refused(name, seat, why) => {
+                self.tell(alloc, number, name, seat, Told::Refused(why), bytes, text)
+            }
             Due::Asked(name, _, seat, work) => self.put(alloc, name, seat, work, bytes),
-            Due::Closed(name, seat) => self.close(alloc, number, name, seat, text),
+            Due::Closed(name, seat) => {
+                self.tell(alloc, number, name, seat, Told::Closed, bytes, text)
+            }
             Due::Resized(name, seat, capacity) => {
-                self.resize(alloc, number, name, seat, capacity, text)
+                self.tell(
+                    alloc,
+                    number,
+                    name,
+                    seat,
+                    Told::Resized(capacity),
+                    bytes,
+                    text,
+                )
             }
         }
     }
@@ -242,7 +211,7 @@ impl<'a, C: Catalog, R: Wait> Clerk for State<'a, C, R> {
     } };
 
     /// Hands out results, each written as soon as no other is at hand, until the line can be answered at once. So no result
-    /// that is ready waits for another client's. A request is put at once, or waits in its lane, as long as not too much waits.
+    /// that is ready waits for another client's. A line is answered at once, or waits in its lane, as long as not too much waits.
     fn answer<W: Sink>(
         &mut self,
         alloc: Global,

@@ -5,13 +5,13 @@ ghost use Rattle.lanes.specs.Links.{AreOfOneCall};
 ghost use Rattle.desk_serving.specs.Ending.{IsReady, IsRun, IsWhole, ends_lanes};
 ghost use Rattle.desk_serving.specs.LanesView.{NothingWaits, lanes_in, links_in, names_in};
 ghost use Rattle.desk_lines.specs.Lines.{ended};
-ghost use Rattle.desk_serving.specs.Owed.{AreFirst, AreFirstOwn, AreHanded, AreOwn, Lane, lane_in};
+ghost use Rattle.desk_serving.specs.Owed.{AreFirst, AreFirstOwn, AreHanded, AreOwn, Queue, queue_in};
 ghost use Rattle.desk_requests.specs.State.{AreDistinct};
 ghost use Rattle.desk_wire.specs.Reports as reports;
 ghost use Rattle.desk_wire.specs.Reports.{report_text};
 ghost use Rattle.desk_serving.specs.Telling.{HandsOut, WritesOut};
 
-use crate::client_lane::clients_of;
+use crate::lane_ends::clients_of;
 use crate::named_lanes::Lanes;
 use crate::waiting::{hand_out_round, hand_out_waits};
 use box_core::Reply;
@@ -24,7 +24,7 @@ use model_marks::Catalog;
 use std::alloc::{AllocError, Global};
 use std::sync::Wait;
 
-/// Hands out results, round by round, while workers run, once no request waits. What is said last may wait to be written.
+/// Hands out results, round by round, while workers run, once nothing waits in the lanes. What is said last may wait to be written.
 fn hand_out_beside<C: Catalog, R: Wait, W: Sink>(
     rt: &R,
     alloc: Global,
@@ -52,7 +52,7 @@ fn hand_out_beside<C: Catalog, R: Wait, W: Sink>(
     Ok(())
 }
 
-/// Hands out results until no request waits, tells the workers to stop, and hands out results until they have ended. What is said
+/// Hands out results until nothing waits in the lanes, tells the workers to stop, and hands out results until they have ended. What is said
 /// last may wait to be written.
 fn hand_out_last<C: Catalog, R: Wait, W: Sink>(
     rt: &R,
@@ -76,7 +76,7 @@ fn hand_out_last<C: Catalog, R: Wait, W: Sink>(
     Ok(())
 }
 
-/// Tells the workers to stop once no request waits, and hands out results until they have ended.
+/// Tells the workers to stop once nothing waits in the lanes, and hands out results until they have ended.
 pub fn end_workers<C: Catalog, R: Wait, W: Sink>(
     rt: &R,
     alloc: Global,
@@ -103,7 +103,7 @@ pub fn end_workers<C: Catalog, R: Wait, W: Sink>(
 /// Runs each job that no worker answered, and takes the answers in.
 fn run_left<C: Catalog>(alloc: Global, end: &mut Settled<Task<C>>) -> Result<(), AllocError>
     requires ready { IsReady end.old }
-    ensures lane { lane_in end.new ≡ lane_in end.old }
+    ensures lane { queue_in end.new ≡ queue_in end.old }
     ensures run { OnOk result (IsRun end.new) }
 {
     while let Some(job) = end.next_left() {
@@ -140,7 +140,7 @@ fn hand_rest<C: Catalog, W: Sink>(
     requires run { IsRun end.old }
     requires counts { (W.seen writer.old).faults < 2 ^ 64 - 1 }
     ensures whole { OnOk result (IsWhole end.new) }
-    ensures handed { HandsOut (AreOwn name.now (lane_in end.old) (lane_in end.new)) (AreFirstOwn name.now (lane_in end.old))
+    ensures handed { HandsOut (AreOwn name.now (queue_in end.old) (queue_in end.new)) (AreFirstOwn name.now (queue_in end.old))
         (W.seen writer.old) (W.seen writer.new) unwritten.old unwritten.new result }
 {
     let mut text = Vec::new(alloc);
@@ -163,7 +163,7 @@ fn hand_out_end<C: Catalog, W: Sink>(
     requires ready { IsReady end.old }
     requires counts { (W.seen writer.old).faults < 2 ^ 64 - 1 }
     ensures whole { OnOk result (IsWhole end.new) }
-    ensures handed { HandsOut (AreOwn name.now (lane_in end.old) (lane_in end.new)) (AreFirstOwn name.now (lane_in end.old))
+    ensures handed { HandsOut (AreOwn name.now (queue_in end.old) (queue_in end.new)) (AreFirstOwn name.now (queue_in end.old))
         (W.seen writer.old) (W.seen writer.new) unwritten.old unwritten.new result }
 {
     run_left(alloc, end)?;
@@ -183,7 +183,7 @@ fn hand_out_ends<C: Catalog, W: Sink>(
     requires ready { All IsReady ends.old.items }
     requires counts { (W.seen writer.old).faults < 2 ^ 64 - 1 }
     requires nothing_waits { unwritten.old ≡ [] }
-    ensures whole { OnOk result ((place : ℕ) (lane : Lane) → place < length names.now.items → slice_get (ends_lanes ends.new.items) place ≡ Some lane → drop lane.handed lane.put ≡ []) }
+    ensures whole { OnOk result ((place : ℕ) (lane : Queue) → place < length names.now.items → slice_get (ends_lanes ends.new.items) place ≡ Some lane → lane.owed ≡ []) }
     ensures rest { OnOk result (drop (length names.now.items) ends.new.items ≡ drop (length names.now.items) ends.old.items) }
     ensures handed { HandsOut (AreHanded (map string_bytes names.now.items) (ends_lanes ends.old.items) (ends_lanes ends.new.items)) (AreFirst (map string_bytes names.now.items) (ends_lanes ends.old.items))
         (W.seen writer.old) (W.seen writer.new) [] unwritten.new result }
@@ -211,7 +211,7 @@ fn hand_out_rest<C: Catalog, W: Sink>(
     requires distinct { AreDistinct (map string_bytes names.now.items) }
     requires ready { All IsReady ends.old.items }
     requires counts { (W.seen writer.old).faults < 2 ^ 64 - 1 }
-    ensures whole { OnOk result ((place : ℕ) (lane : Lane) → place < length names.now.items → slice_get (ends_lanes ends.new.items) place ≡ Some lane → drop lane.handed lane.put ≡ []) }
+    ensures whole { OnOk result ((place : ℕ) (lane : Queue) → place < length names.now.items → slice_get (ends_lanes ends.new.items) place ≡ Some lane → lane.owed ≡ []) }
     ensures rest { OnOk result (drop (length names.now.items) ends.new.items ≡ drop (length names.now.items) ends.old.items) }
     ensures written { WritesOut (λ _. AreHanded (map string_bytes names.now.items) (ends_lanes ends.old.items) (ends_lanes ends.new.items)) (AreFirst (map string_bytes names.now.items) (ends_lanes ends.old.items))
         (W.seen writer.old) (W.seen writer.new) result }
@@ -235,7 +235,7 @@ pub fn end_lanes<C: Catalog, W: Sink>(
     requires ends { AreOfOneCall (links_in lanes) (map worker_links workers.items) }
     requires clear { NothingWaits lanes }
     // No request was put into a lane without a name.
-    requires new { (place : ℕ) (lane : Lane) → length (names_in lanes) ≤ place → slice_get (lanes_in lanes) place ≡ Some lane → lane.put ≡ [] }
+    requires new { (place : ℕ) (lane : Queue) → length (names_in lanes) ≤ place → slice_get (lanes_in lanes) place ≡ Some lane → lane.put ≡ [] }
     requires counts { (W.seen writer.old).faults < 2 ^ 64 - 1 }
     ensures whole { IfOk result (λ ends. All IsWhole ends.items) }
     ensures written { WritesOut (λ ends. AreHanded (names_in lanes) (lanes_in lanes) (ends_lanes ends.items)) (AreFirst (names_in lanes) (lanes_in lanes))

@@ -1,11 +1,12 @@
 //! `serve`: many clients at once. Each client's answers come in the order of its lines. None is kept back for another client's
-//! slow request, unless a refusal, close or resize has to wait for that, or too much waits.
+//! slow request, unless too much waits.
 #![tactic(auto)]
 
 mod answering;
 mod client_lane;
 mod deciding;
 mod ending;
+mod lane_ends;
 mod laws;
 mod load;
 mod named_lanes;

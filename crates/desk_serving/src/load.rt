@@ -1,49 +1,44 @@
-//! How many requests may wait for places in their clients' mailboxes.
+//! How much may wait in the lanes.
 
-/// So many requests may wait in all.
-const MOST_REQUESTS: usize = 64;
-/// So many bytes may their lines have in all.
+/// So many lines may wait in all.
+const MOST_LINES: usize = 64;
+/// So many bytes may they have in all.
 const MOST_BYTES: usize = 1_048_576;
 
-/// How many requests wait for places in their clients' mailboxes, and how many bytes their lines have.
+/// How many lines wait in the lanes, and how many bytes they have.
 #[derive(Drop)]
 pub struct Load {
-    requests: usize,
+    lines: usize,
     bytes: usize,
 }
 
 impl Load {
     /// Nothing waits.
     pub fn none() -> Load {
-        Load {
-            requests: 0,
-            bytes: 0,
-        }
+        Load { lines: 0, bytes: 0 }
     }
 
     /// Whether nothing waits.
     pub fn is_none(&self) -> bool {
-        self.requests == 0
+        self.lines == 0
     }
 
-    /// Whether a request with a line of so many bytes may wait, too.
+    /// Whether a line of so many bytes may wait, too.
     pub fn has_room(&self, bytes: usize) -> bool {
-        self.requests < MOST_REQUESTS && bytes <= MOST_BYTES.saturating_sub(self.bytes)
+        self.lines < MOST_LINES && bytes <= MOST_BYTES.saturating_sub(self.bytes)
     }
 
-    /// A request was put. If it waits, its line has so many bytes.
+    /// A line was heard. If it waits, it has so many bytes.
     pub fn add(&mut self, waits: Option<usize>) {
         if let Some(bytes) = waits {
-            self.requests = self.requests.saturating_add(1);
+            self.lines = self.lines.saturating_add(1);
             self.bytes = self.bytes.saturating_add(bytes);
         }
     }
 
-    /// If a request that waited went on, its line has so many bytes.
-    pub fn take(&mut self, gone: Option<usize>) {
-        if let Some(bytes) = gone {
-            self.requests = self.requests.saturating_sub(1);
-            self.bytes = self.bytes.saturating_sub(bytes);
-        }
+    /// A line of so many bytes that waited went on.
+    pub fn take(&mut self, bytes: usize) {
+        self.lines = self.lines.saturating_sub(1);
+        self.bytes = self.bytes.saturating_sub(bytes);
     }
 }

@@ -1,23 +1,23 @@
 //! The clients' lanes and their names.
-ghost use Rattle.std.specs.Prelude.{◌≡◌, ◌<◌, ◌≤◌, ◌^◌, [], ℕ, List, drop, false, length, map, slice_get, slice_set, string_bytes, IfNone, IfOk, IfSome, IsTrue, OnOk, Some};
+ghost use Rattle.std.specs.Prelude.{◌≡◌, ◌<◌, ◌≤◌, ◌^◌, [], ℕ, List, false, length, map, slice_get, slice_set, string_bytes, IfNone, IfOk, IfSome, IsTrue, OnOk, Some};
 ghost use Rattle.std.specs.Arc.{arc_value};
-ghost use Rattle.box_core.specs.Mail.{is_no_capacity};
 ghost use Rattle.lanes.specs.Clients.{client_links};
-ghost use Rattle.desk_serving.specs.Owed.{Hands, HandsThen, Lane, lane_of, unhanded, with_closed, with_put};
+ghost use Rattle.desk_serving.specs.Owed.{Hands, HandsThen, Queue, queue_of, unhanded, with_put, with_told};
 ghost use Rattle.desk_requests.specs.State.{AreDistinct, AreDistinct-prop, with_lane};
 ghost use Rattle.feel_value.specs.Distinct.{is_among};
 ghost use Rattle.desk_wire.specs.Reports.{Of};
 
-use crate::client_lane::{ClientLane, lanes_of};
+use crate::client_lane::{ClientLane, Waiting};
+use crate::lane_ends::lanes_of;
 use crate::load::Load;
 use crate::until::Until;
 use desk_requests::Seat;
-use desk_wire::{Report, Told};
+use desk_wire::Told;
 use dmn_plan::Task;
 use lanes::{Client, MOST_CLIENTS};
 use model_marks::Catalog;
 use std::alloc::{AllocError, Global};
-use std::sync::{Arc, Wait};
+use std::sync::Arc;
 
 /// The most lanes.
 const MOST: usize = MOST_CLIENTS as usize;
@@ -27,7 +27,7 @@ const MOST: usize = MOST_CLIENTS as usize;
 pub struct Lanes<C: Catalog> {
     pub(crate) names: Vec<String>,
     pub(crate) clients: Vec<ClientLane<C>>,
-    /// How many requests of each may be outstanding; of a closed lane none.
+    /// How many requests each mailbox may have outstanding; a closed one none.
     rooms: [u32; MOST],
     /// What waits in the lanes.
     load: Load,
@@ -47,7 +47,7 @@ impl<C: Catalog> Lanes<C> {
         capacity: u32,
     ) -> Result<Lanes<C>, AllocError>
         ensures names { IfOk result (λ lanes. lanes.names.items ≡ []) }
-        ensures lanes { IfOk result (λ lanes. lanes_in lanes ≡ map lane_of clients.items) }
+        ensures lanes { IfOk result (λ lanes. lanes_in lanes ≡ map queue_of clients.items) }
         ensures links { IfOk result (λ lanes. links_in lanes ≡ map client_links clients.items) }
     {
         let lanes = lanes_of(alloc, clients)?;
@@ -77,7 +77,7 @@ impl<C: Catalog> Lanes<C> {
     fn seat_at(&self, place: usize) -> Seat
         requires { place < length (lanes_in self.now) }
         ensures place { result.place ≡ place }
-        ensures closed { (lane : Lane) → slice_get (lanes_in self.now) place ≡ Some lane → result.is_closed ≡ lane.closed }
+        ensures closed { (lane : Queue) → slice_get (lanes_in self.now) place ≡ Some lane → result.is_closed ≡ lane.closed }
     {
         Seat {
             place,
@@ -128,40 +128,65 @@ impl<C: Catalog> Lanes<C> {
         Ok(())
     }
 
-    /// Where there are places for requests that wait, they go on into the mailboxes: at most one in each lane. Who looks at the
-    /// lanes sees no change.
-    pub fn go_on(&mut self) -> Result<(), AllocError>
+    /// What waits goes on, where its turn is there: at most one in each lane. What is said then stands in lines at the end of the
+    /// text. That gives whether any went on.
+    pub fn go_on(&mut self, alloc: Global, text: &mut Vec<u8>) -> Result<bool, AllocError>
         ensures same { links_in self.new ≡ links_in self.old }
         ensures names { names_in self.new ≡ names_in self.old }
-        ensures lanes { OnOk result (lanes_in self.new ≡ lanes_in self.old) }
         ensures clear { OnOk result (NothingWaits self.old → NothingWaits self.new) }
+        ensures hands { OnOk result (Hands (names_in self.old) (lanes_in self.old) (lanes_in self.new) text.old.items text.new.items) }
     {
         if self.load.is_none() {
-            return Ok(());
+            return Ok(false);
         }
-        for place in 0..self.clients.len() {
-            self.go_on_at(place)?;
+        let mut has_gone = false;
+        for place in 0..self.names.len() {
+            if self.go_on_at(alloc, place, text)? {
+                has_gone = true;
+            }
         }
-        Ok(())
+        Ok(has_gone)
     }
 
     /// The same in one lane.
-    fn go_on_at(&mut self, place: usize) -> Result<(), AllocError>
-        requires place { place < length (lanes_in self.old) }
+    fn go_on_at(
+        &mut self,
+        alloc: Global,
+        place: usize,
+        text: &mut Vec<u8>,
+    ) -> Result<bool, AllocError>
+        requires place { place < length (names_in self.old) }
         ensures same { links_in self.new ≡ links_in self.old }
         ensures names { names_in self.new ≡ names_in self.old }
-        ensures lanes { OnOk result (lanes_in self.new ≡ lanes_in self.old) }
         ensures clear { OnOk result (NothingWaits self.old → NothingWaits self.new) }
+        ensures hands { OnOk result (Hands (names_in self.old) (lanes_in self.old) (lanes_in self.new) text.old.items text.new.items) }
     {
         if !self.has_place(place) {
-            return Ok(());
+            return Ok(false);
         }
-        let gone = self.clients[place].go_first()?;
-        self.load.take(gone);
-        Ok(())
+        let gone = self.clients[place].go_first(alloc, self.names[place].as_str(), text)?;
+        let Some(gone) = gone else {
+            return Ok(false);
+        };
+        self.note(place, gone);
+        Ok(true)
     }
 
-    /// Whether no request waits.
+    /// Notes that this went on in a lane.
+    fn note(&mut self, place: usize, gone: Waiting<C>)
+        ensures names { self.new.names ≡ self.old.names }
+        ensures clients { self.new.clients ≡ self.old.clients }
+    {
+        match gone {
+            Waiting::Request(_, bytes) => self.load.take(bytes),
+            Waiting::Told(_, told, bytes) => {
+                self.load.take(bytes);
+                self.set_room(place, told);
+            }
+        }
+    }
+
+    /// Whether nothing waits.
     pub fn nothing_waits(&self) -> bool
         ensures { IsTrue result → NothingWaits self.now }
     {
@@ -174,7 +199,7 @@ impl<C: Catalog> Lanes<C> {
     }
 
     /// Hands out at most one result from the lane that is waited for, and one from another, in lines at the end of the text. The
-    /// others take turns, so this costs the same however many lanes there are. Then requests that wait go on.
+    /// others take turns, so this costs the same however many lanes there are. Then what waits goes on.
     pub fn hand_out_some(
         &mut self,
         alloc: Global,
@@ -188,7 +213,8 @@ impl<C: Catalog> Lanes<C> {
         self.hand_out_at(alloc, until.place(), text)?;
         let turn = self.next_turn();
         self.hand_out_at(alloc, turn, text)?;
-        self.go_on()
+        self.go_on(alloc, text)?;
+        Ok(())
     }
 
     /// Hands out the next result of the lane at a place, if there is a lane with a name and its result is there.
@@ -232,106 +258,94 @@ impl<C: Catalog> Lanes<C> {
         outstanding == 0 || outstanding < *room as u64
     }
 
+    /// Whether something waits in a lane.
+    fn has_waiting(&self, place: usize) -> bool {
+        match self.clients.get(place) {
+            Some(lane) => lane.has_waiting(),
+            None => false,
+        }
+    }
+
     /// Whether a lane takes a request with a line of so many bytes: its mailbox has a place, or the request may wait for one.
     pub fn has_room(&self, place: usize, bytes: usize) -> bool {
-        self.has_place(place) || self.load.has_room(bytes)
+        if !self.has_waiting(place) && self.has_place(place) {
+            return true;
+        }
+        self.load.has_room(bytes)
     }
 
-    /// Notes how many requests of a lane may be outstanding.
-    fn set_room(&mut self, place: usize, capacity: u32)
-        ensures names { names_in self.new ≡ names_in self.old }
-        ensures lanes { lanes_in self.new ≡ lanes_in self.old }
-        ensures same { links_in self.new ≡ links_in self.old }
-    {
-        if let Some(room) = self.rooms.get_mut(place) {
-            *room = capacity;
+    /// Whether a lane takes what is told of a line of so many bytes: nothing is owed there, or that may wait.
+    pub fn has_room_told(&self, place: usize, bytes: usize) -> bool {
+        match self.clients.get(place) {
+            Some(lane) => lane.is_whole() || self.load.has_room(bytes),
+            None => true,
         }
     }
 
-    /// Hands out results until a lane is whole. As a line is answered only then, this never waits.
-    pub fn drain<R: Wait>(
-        &mut self,
-        rt: &R,
-        alloc: Global,
-        place: usize,
-        text: &mut Vec<u8>,
-    ) -> Result<(), AllocError>
-        requires place { place < length (names_in self.old) }
-        ensures same { links_in self.new ≡ links_in self.old }
-        ensures names { names_in self.new ≡ names_in self.old }
-        ensures hands { OnOk result (Hands (names_in self.old) (lanes_in self.old) (lanes_in self.new) text.old.items text.new.items) }
-        ensures whole { OnOk result ((lane : Lane) → slice_get (lanes_in self.new) place ≡ Some lane → drop lane.handed lane.put ≡ []) }
+    /// Notes how many requests of a lane may be outstanding once this is told.
+    fn set_room(&mut self, place: usize, told: Told)
+        ensures names { self.new.names ≡ self.old.names }
+        ensures clients { self.new.clients ≡ self.old.clients }
     {
-        for _ in rt.forever() {
-            if self.clients[place].is_whole() {
-                break;
+        let Some(room) = self.rooms.get_mut(place) else {
+            return;
+        };
+        match told {
+            Told::Closed => {
+                *room = 0;
             }
-            let seen = self.answers();
-            let said = text.len();
-            self.hand_out(alloc, text)?;
-            self.go_on()?;
-            self.rest(rt, text.len() > said, seen);
+            Told::Resized(capacity) => {
+                *room = capacity;
+            }
+            _ => {}
         }
-        Ok(())
     }
 
-    /// Tells what comes of a client's line, behind all earlier results of that client.
-    pub fn report<R: Wait>(
+    /// Tells what comes of a client's line behind all that is owed to the client: as a line at the end of the text, or it waits.
+    pub fn tell(
         &mut self,
-        rt: &R,
         alloc: Global,
         number: u64,
         name: &str,
         place: usize,
         told: Told,
+        bytes: usize,
         text: &mut Vec<u8>,
     ) -> Result<(), AllocError>
         requires place { slice_get (names_in self.old) place ≡ Some name.now }
         ensures same { links_in self.new ≡ links_in self.old }
         ensures names { names_in self.new ≡ names_in self.old }
-        ensures lanes { OnOk result (unhanded (lanes_in self.new) ≡ unhanded (lanes_in self.old)) }
+        ensures lanes { OnOk result ((lane : Queue) → slice_get (lanes_in self.old) place ≡ Some lane → unhanded (lanes_in self.new) ≡ unhanded (slice_set (lanes_in self.old) place (with_told number told lane))) }
         ensures hands { OnOk result (HandsThen (names_in self.old) (lanes_in self.old) (lanes_in self.new) (Of name.now number told) text.old.items text.new.items) }
     {
-        self.drain(rt, alloc, place, text)?;
-        Report::Of(name, number, told).add_to(alloc, text)
+        let waits = self.clients[place].tell(alloc, number, name, told, bytes, text)?;
+        self.note_told(place, waits, told);
+        Ok(())
+    }
+
+    /// Notes that this was told in a lane, or that its line waits with so many bytes.
+    fn note_told(&mut self, place: usize, waits: Option<usize>, told: Told)
+        ensures names { self.new.names ≡ self.old.names }
+        ensures clients { self.new.clients ≡ self.old.clients }
+    {
+        if waits.is_none() {
+            self.set_room(place, told);
+            return;
+        }
+        self.load.add(waits);
     }
 
     /// Puts a request into a lane that is open.
     pub fn put(&mut self, place: usize, work: Arc<Task<C>>, bytes: usize) -> Result<(), AllocError>
         requires place { place < length (names_in self.old) }
-        requires few { (lane : Lane) → slice_get (lanes_in self.old) place ≡ Some lane → length lane.put < 2 ^ 60 }
-        requires open { (lane : Lane) → slice_get (lanes_in self.old) place ≡ Some lane → lane.closed ≡ false }
+        requires few { (lane : Queue) → slice_get (lanes_in self.old) place ≡ Some lane → length lane.put < 2 ^ 60 }
+        requires open { (lane : Queue) → slice_get (lanes_in self.old) place ≡ Some lane → lane.closed ≡ false }
         ensures same { links_in self.new ≡ links_in self.old }
         ensures names { names_in self.new ≡ names_in self.old }
-        ensures puts { OnOk result ((lane : Lane) → slice_get (lanes_in self.old) place ≡ Some lane → lanes_in self.new ≡ slice_set (lanes_in self.old) place (with_put lane (arc_value work))) }
+        ensures puts { OnOk result ((lane : Queue) → slice_get (lanes_in self.old) place ≡ Some lane → lanes_in self.new ≡ slice_set (lanes_in self.old) place (with_put lane (arc_value work))) }
     {
         let waits = self.clients[place].put(work, bytes)?;
         self.load.add(waits);
-        Ok(())
-    }
-
-    /// Closes a lane.
-    pub fn close(&mut self, place: usize)
-        requires place { place < length (names_in self.old) }
-        ensures same { links_in self.new ≡ links_in self.old }
-        ensures names { names_in self.new ≡ names_in self.old }
-        ensures closes { (lane : Lane) → slice_get (lanes_in self.old) place ≡ Some lane → lanes_in self.new ≡ slice_set (lanes_in self.old) place (with_closed lane) }
-    {
-        self.clients[place].close();
-        self.set_room(place, 0);
-    }
-
-    /// Gives a whole open lane a capacity.
-    pub fn resize(&mut self, place: usize, capacity: u32) -> Result<(), AllocError>
-        requires place { place < length (names_in self.old) }
-        requires whole { (lane : Lane) → slice_get (lanes_in self.old) place ≡ Some lane → (drop lane.handed lane.put ≡ []) × (lane.closed ≡ false) }
-        requires capacity { is_no_capacity capacity ≡ false }
-        ensures same { links_in self.new ≡ links_in self.old }
-        ensures names { names_in self.new ≡ names_in self.old }
-        ensures lanes { lanes_in self.new ≡ lanes_in self.old }
-    {
-        self.clients[place].resize(capacity)?;
-        self.set_room(place, capacity);
         Ok(())
     }
 }

@@ -4,7 +4,7 @@ ghost use Rattle.lanes.specs.Made.{fault_in};
 ghost use Rattle.desk_serving.specs.Ending.{ServedBy};
 ghost use Rattle.desk_serving.specs.Running.{FinishesBy, GoesOn, IsHandedOut, Runs};
 ghost use Rattle.desk_serving.specs.LanesView.{NothingWaits, lanes_in, links_in, names_in};
-ghost use Rattle.desk_serving.specs.Owed.{Lane};
+ghost use Rattle.desk_serving.specs.Owed.{Queue};
 ghost use Rattle.lanes.specs.Links.{AreOfOneCall};
 ghost use Rattle.lanes.specs.Workers.{worker_links};
 ghost use Rattle.desk_serving.specs.StateView.{After};
@@ -151,7 +151,7 @@ fn finish<C: Catalog, W: Sink>(
     ended: Result<(), FrontFault>,
 ) -> Result<Vec<Settled<Task<C>>>, FrontFault>
     requires ends { AreOfOneCall (links_in lanes) (map worker_links workers.items) }
-    requires new { GoesOn ended → (place : ℕ) (lane : Lane) → length (names_in lanes) ≤ place → slice_get (lanes_in lanes) place ≡ Some lane → lane.put ≡ [] }
+    requires new { GoesOn ended → (place : ℕ) (lane : Queue) → length (names_in lanes) ≤ place → slice_get (lanes_in lanes) place ≡ Some lane → lane.put ≡ [] }
     requires clear { GoesOn ended → NothingWaits lanes }
     requires counts { GoesOn ended → (W.seen writer.old).faults < 2 ^ 64 - 1 }
     ensures ok { IfOk result (λ ends. (ended ≡ Ok tt) × IsHandedOut (names_in lanes) (lanes_in lanes) (W.seen writer.old).contents (W.seen writer.new).contents ends.items) }

@@ -9,8 +9,8 @@ pub enum Until {
     Now,
     /// A lane takes a request with a line of so many bytes.
     Room(usize, usize),
-    /// A lane is whole.
-    Whole(usize),
+    /// A lane takes what is told of a line of so many bytes.
+    Told(usize, usize),
     /// Each lane with a name is whole.
     AllWhole,
 }
@@ -20,7 +20,7 @@ impl Until {
     pub fn place(&self) -> usize {
         match self {
             Until::Room(place, _) => *place,
-            Until::Whole(place) => *place,
+            Until::Told(place, _) => *place,
             Until::Now => usize::MAX,
             Until::AllWhole => usize::MAX,
         }
@@ -33,16 +33,8 @@ impl<C: Catalog> Lanes<C> {
         match until {
             Until::Now => true,
             Until::Room(place, bytes) => self.has_room(place, bytes),
-            Until::Whole(place) => self.is_whole_at(place),
+            Until::Told(place, bytes) => self.has_room_told(place, bytes),
             Until::AllWhole => self.is_whole(),
-        }
-    }
-
-    /// Whether a lane is whole.
-    fn is_whole_at(&self, place: usize) -> bool {
-        match self.clients.get(place) {
-            Some(client) => client.is_whole(),
-            None => true,
         }
     }
 

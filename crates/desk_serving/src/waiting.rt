@@ -11,8 +11,8 @@ use model_marks::Catalog;
 use std::alloc::Global;
 use std::sync::Wait;
 
-/// Hands out at most one result from each lane, and tells whether there was one. Requests that wait go on. Where there was no
-/// result, all that waits is written. As that may take long, a worker is woken before for the requests in the mailboxes.
+/// Hands out at most one result from each lane, and what waits in the lanes goes on. Tells whether anything came or went. Where nothing
+/// was said, all that waits to be written is. As that may take long, a worker is woken before for the requests in the mailboxes.
 pub fn hand_out_round<C: Catalog, W: Sink>(
     alloc: Global,
     lanes: &mut Lanes<C>,
@@ -28,11 +28,11 @@ pub fn hand_out_round<C: Catalog, W: Sink>(
 {
     let mut text = Vec::new(alloc);
     lanes.hand_out(alloc, &mut text)?;
-    lanes.go_on()?;
+    let has_gone = lanes.go_on(alloc, &mut text)?;
     lanes.call_worker();
     unwritten.pass_on(writer, &text)?;
     if text.is_empty() {
-        return Ok(false);
+        return Ok(has_gone);
     }
     lanes.free_memory();
     Ok(true)
@@ -84,7 +84,7 @@ pub fn hand_out_until<C: Catalog, R: Wait, W: Sink>(
     Ok(())
 }
 
-/// Hands out results, round by round, until no request waits.
+/// Hands out results, round by round, until nothing waits in the lanes.
 pub fn hand_out_waits<C: Catalog, R: Wait, W: Sink>(
     rt: &R,
     alloc: Global,

@@ -19,7 +19,7 @@ const MANY: u64 = 16;
 const PLENTY: u64 = 64;
 /// The longest sleep in milliseconds. No wake-up is lost, as `Bell` says, and no job is passed; this bounds what it would
 /// cost.
-const LONGEST_SLEEP: u64 = 100;
+const LONGEST_SLEEP: u64 = 1_000;
 /// The longest sleep, in milliseconds, of a front that waits for many answers: so long one that is there may wait for others.
 const LONGEST_GATHERING: u64 = 1;
 

@@ -5,7 +5,7 @@
 #[cfg(test)]
 mod ahead_tests;
 #[cfg(test)]
-mod device_tests;
+mod fault_tests;
 #[cfg(test)]
 mod gate_tests;
 #[cfg(test)]
@@ -14,8 +14,6 @@ mod growing_tests;
 mod marked_runs;
 #[cfg(test)]
 mod models_tests;
-#[cfg(test)]
-mod refused_tests;
 #[cfg(test)]
 mod runs;
 #[cfg(test)]

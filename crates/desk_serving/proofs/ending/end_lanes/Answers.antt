@@ -6,7 +6,7 @@ use Rattle.lanes.specs.Links.{AreOfOneCall, Link}
 use Rattle.lanes.specs.Workers.{worker_links}
 use Rattle.desk_serving.specs.Ending.{ends_lanes}
 use Rattle.desk_serving.specs.LanesView.{client_held, lanes_in, links_in, names_in}
-use Rattle.desk_serving.specs.Owed.{AreFirst, AreHanded, Lane, due_to, lane_of}
+use Rattle.desk_serving.specs.Owed.{AreFirst, AreHanded, Queue, due_to, queue_of}
 use Rattle.desk_serving.specs.Telling.{WritesOut}
 use Rattle.desk_serving.proofs.EndingLanes.{settled_lanes, settled_ready, settled_count, all_whole}
 use Rattle.desk_serving.proofs.Outcomes.{went, written_err, written_none, written_ok}
@@ -44,18 +44,18 @@ returns-in_err-hand_out_rest-clause-written g c =
     let is = err_from_is_err_and c.from_residual-in_err-hand_out_rest.result c.from_residual-in_err-hand_out_rest.ensures.1 in
     rw (is.1, is.2)
     (written_err (λ (x : Unit {0}). AreHanded names (lanes_in c.args.lanes) ends) _ (AreFirst names (lanes_in c.args.lanes)) _ _ fault
-    (subst (λ (ls : List Lane). WritesOut (λ (x : Unit {0}). AreHanded names ls ends) (AreFirst names ls) (g.W.Sink.seen c.args.writer.now) (g.W.Sink.seen c.hand_out_rest.new.writer) (failed (Unit {0}) fault))
-    (settled_lanes 0 _ _ _ c.in-Ok.ensures.settled ∙ ap (map lane_of) c.in_ok-own.ensures ∙ clear_lanes c.args.lanes.clients.items c.requires.clear) c.in_err-hand_out_rest.ensures.written))
+    (subst (λ (ls : List Queue). WritesOut (λ (x : Unit {0}). AreHanded names ls ends) (AreFirst names ls) (g.W.Sink.seen c.args.writer.now) (g.W.Sink.seen c.hand_out_rest.new.writer) (failed (Unit {0}) fault))
+    (settled_lanes 0 _ _ _ c.in-Ok.ensures.settled ∙ ap (map queue_of) c.in_ok-own.ensures ∙ clear_lanes c.args.lanes.clients.items c.requires.clear) c.in_err-hand_out_rest.ensures.written))
 
 pub returns-clause-written : goal.returns-clause-written
 returns-clause-written g c =
     let names = names_in c.args.lanes in let ends = ends_lanes c.hand_out_rest.new.ends.items in
     written_ok (λ (x : Unit {0}). AreHanded names (lanes_in c.args.lanes) ends) _ (AreFirst names (lanes_in c.args.lanes)) _ _ tt c.hand_out_rest.new.ends (λ m p. p)
-    (subst (λ (ls : List Lane). WritesOut (λ (x : Unit {0}). AreHanded names ls ends) (AreFirst names ls) (g.W.Sink.seen c.args.writer.now) (g.W.Sink.seen c.hand_out_rest.new.writer) (went (Unit {0}) tt))
-    (settled_lanes 0 _ _ _ c.in-Ok.ensures.settled ∙ ap (map lane_of) c.in_ok-own.ensures ∙ clear_lanes c.args.lanes.clients.items c.requires.clear) c.in_ok-hand_out_rest.ensures.written)
+    (subst (λ (ls : List Queue). WritesOut (λ (x : Unit {0}). AreHanded names ls ends) (AreFirst names ls) (g.W.Sink.seen c.args.writer.now) (g.W.Sink.seen c.hand_out_rest.new.writer) (went (Unit {0}) tt))
+    (settled_lanes 0 _ _ _ c.in-Ok.ensures.settled ∙ ap (map queue_of) c.in_ok-own.ensures ∙ clear_lanes c.args.lanes.clients.items c.requires.clear) c.in_ok-hand_out_rest.ensures.written)
 
 pub returns-clause-whole : goal.returns-clause-whole
 returns-clause-whole g c =
     let names = c.args.lanes.names.items in
-    all_whole (length names) _ _ _ (settled_lanes 0 _ _ _ c.in-Ok.ensures.settled ∙ ap (map lane_of) c.in_ok-own.ensures ∙ clear_lanes c.args.lanes.clients.items c.requires.clear) c.in_ok-hand_out_rest.ensures.whole c.in_ok-hand_out_rest.ensures.rest
+    all_whole (length names) _ _ _ (settled_lanes 0 _ _ _ c.in-Ok.ensures.settled ∙ ap (map queue_of) c.in_ok-own.ensures ∙ clear_lanes c.args.lanes.clients.items c.requires.clear) c.in_ok-hand_out_rest.ensures.whole c.in_ok-hand_out_rest.ensures.rest
     (λ k lane le at. let long = length-map names string_bytes in c.requires.new k lane (omega (arith, le)) at)

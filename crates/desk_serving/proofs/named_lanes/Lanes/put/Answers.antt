@@ -2,7 +2,7 @@ use Rattle.std.proofs.Common.{◌≡◌, ◌∙◌, ap, slice_set}
 use Rattle.std.specs.Arc.{arc_value}
 use Rattle.lanes.proofs.Making.{links_kept}
 use Rattle.desk_serving.specs.LanesView.{lane_held, lanes_in, links_held}
-use Rattle.desk_serving.specs.Owed.{Lane, with_put}
+use Rattle.desk_serving.specs.Owed.{Queue, with_put}
 use Rattle.desk_serving.proofs.Putting.{lane_at, lanes_inside, lanes_set, some_same}
 use Rattle.desk_serving.proofs.named_lanes.Lanes.put.Goals as goal
 
@@ -24,4 +24,4 @@ returns-clause-puts g c = λ lane at.
     let inside = (lanes_inside self c.args.place c.requires.place).0 in
     let is : lane_held old ≡ lane = some_same _ (lane_held old) lane (lane_at self.clients.items c.args.place old inside c.index_mut.ensures.value) at in
     lanes_set self.clients.items c.args.place c.put.new.self
-    ∙ ap (λ (l : Lane). slice_set (lanes_in self) c.args.place l) (c.in_ok-waits.ensures.put ∙ ap (λ (l : Lane). with_put l (arc_value c.args.work)) is)
+    ∙ ap (λ (l : Queue). slice_set (lanes_in self) c.args.place l) (c.in_ok-waits.ensures.put ∙ ap (λ (l : Queue). with_put l (arc_value c.args.work)) is)
